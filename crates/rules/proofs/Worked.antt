@@ -1,0 +1,12 @@
+-- The starred sheets of 01, proved by computing the rules on them.
+use mathlib.Core.Path.{_≡_, refl}
+use Rattle.rules.specs.Base.{nil, _&_}
+use Rattle.rules.specs.Worked.{table, StarredSheets}
+use Rattle.rules.proofs.Compute.{every-rule}
+
+pub starred-sheets : StarredSheets
+unfolding table every-rule
+starred-sheets = record {
+  all-hold = refl & refl & refl & refl & refl & refl & refl & refl & refl & refl & refl & refl & refl & refl & refl & refl & refl & refl & nil;
+  encoders-are-right = refl;
+}

@@ -1,0 +1,25 @@
+-- Choice by a computed test, and tests on all of several things.
+use mathlib.Core.Bool.{Bool, true, false, _&&_}
+use mathlib.Core.List.{List, [], _∷_}
+use Prim.Native.Nat.{ℕ, zero, suc}
+
+infix 1 if_then_else_
+abbrev pub if_then_else_ {ℓ} : {X : Type ℓ} → Bool → X → X → X
+if_then_else_ true x y = x
+if_then_else_ false x y = y
+
+-- every element of a list passes the test
+unfoldable pub all : {A : Type 0} → (A → Bool) → List A → Bool
+all f [] = true
+all f (x ∷ xs) = f x && all f xs
+
+-- every number below n passes the test
+unfoldable pub allBelow : ℕ → (ℕ → Bool) → Bool
+allBelow zero f = true
+allBelow (suc n) f = allBelow n f && f n
+
+-- every element of a list has a property
+infixr 20 _&_
+pub data Each {A : Type 0} (P : A → Type 0) : List A → Type 0 where
+  nil : Each P []
+  _&_ : {x : A} {xs : List A} → P x → Each P xs → Each P (x ∷ xs)
