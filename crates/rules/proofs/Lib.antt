@@ -1,2 +1,5 @@
+pub mod Base
+pub mod Order
+pub mod Format
 pub mod Compute
 pub mod Worked
