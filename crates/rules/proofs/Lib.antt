@@ -1,5 +1,10 @@
 pub mod Base
 pub mod Order
+pub mod Ends
+pub mod Interval
 pub mod Format
+pub mod Expression
+pub mod Narrowing
+pub mod NarrowingSound
 pub mod Compute
 pub mod Worked
