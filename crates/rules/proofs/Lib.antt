@@ -6,5 +6,6 @@ pub mod Format
 pub mod Expression
 pub mod Narrowing
 pub mod NarrowingSound
+pub mod Run
 pub mod Compute
 pub mod Worked
