@@ -7,5 +7,8 @@ pub mod Expression
 pub mod Narrowing
 pub mod NarrowingSound
 pub mod Run
+pub mod Cover
+pub mod Turn
+pub mod Search
 pub mod Compute
 pub mod Worked
