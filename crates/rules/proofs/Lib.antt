@@ -10,5 +10,6 @@ pub mod Run
 pub mod Cover
 pub mod Turn
 pub mod Search
+pub mod Demands
 pub mod Compute
 pub mod Worked

@@ -17,8 +17,8 @@ use Rattle.rules.specs.Program.{Arith, constant, register, operation, Co
 use Rattle.rules.specs.Program.{Action, halt, skip, assign, branch, store, load, unlock, lock, Header, Program}
 use Rattle.rules.specs.Expression.{Regs, evaluate, allParts, narrowYes, narrowNo}
 use Rattle.rules.specs.Format.{Bytes, Got, bad, got, readSheet}
-use Rattle.rules.specs.Search.{State, ThreadState, Live, Next, unread, states, fromValue, branches, effect, Turn, refused, ended, follow, before, events, turnBound, greatestLow, waits, turnOf, turn, liveFrom, Window, unseen, seen, Step, stop, goOn, afterTurn, searchStep, End, fails, finds, resume, search, resumeTaking, takes, start, searchFrom, Answer, five, judge, answerWith, answer}
-use Rattle.rules.proofs.Base.{if-ind, and-left, and-right}
+use Rattle.rules.specs.Search.{State, ThreadState, Live, Next, unread, states, fromValue, branches, effect, Turn, refused, ended, follow, before, events, turnBound, greatestLow, waits, turnOf, turn, liveFrom, Window, unseen, seen, Step, stop, goOn, afterTurn, searchStep, End, fails, finds, resume, search, resumeTaking, takes, start, searchFrom, statesTaken, Answer, five, judge, answerWith, answer}
+use Rattle.rules.proofs.Base.{if-ind, not-both}
 
 -- ---- which refusals a search gives, and at which place
 
@@ -202,6 +202,7 @@ pub record RefusedSheet (r p : ℕ) (a : Answer) : Type 0 where
 
 -- of a sheet that reads, with some slots
 pub record SearchedSheet (g : Program) (slots : ℕ) (a : Answer) : Type 0 where
+  pub steps-are-taken : a .steps ≡ length (statesTaken g slots)
   pub steps-in-budget : a .steps ≤ g .header .budget
   -- refusals 1 to 9 are the reader's
   pub no-early-refusal : (a .refusal ≡ 0 → ⊥) → 10 ≤ a .refusal
@@ -219,39 +220,75 @@ unread-sheet sheet n r p q = subst (λ (x : Got Program). RefusedSheet (number r
   no-high = refl;
 })
 
-failed : (g : Program) (slots : ℕ) (r : Refusal) (p n : ℕ) → Given r p → n ≤ g .header .budget → SearchedSheet g slots (five (number r) p n 0 0)
-failed g slots r p n (unreadable q) h =
-    record { steps-in-budget = h; no-early-refusal = λ _. omega arith; window-only = λ _ _. (refl, refl); place-only = λ k. absurd (k refl) }
-failed g slots r p n is-stuck h =
-    record { steps-in-budget = h; no-early-refusal = λ _. omega arith; window-only = λ _ _. (refl, refl); place-only = λ _. refl }
-failed g slots r p n past-limit h =
-    record { steps-in-budget = h; no-early-refusal = λ _. omega arith; window-only = λ _ _. (refl, refl); place-only = λ _. refl }
-failed g slots r p n no-steps h =
-    record { steps-in-budget = h; no-early-refusal = λ _. omega arith; window-only = λ _ _. (refl, refl); place-only = λ _. refl }
-failed g slots r p n no-room h =
-    record { steps-in-budget = h; no-early-refusal = λ _. omega arith; window-only = λ _ _. (refl, refl); place-only = λ _. refl }
+-- the steps of an answer: as many as a list of states, no more than the budget
+pub record StepsAre (g : Program) (taken : List State) (n : ℕ) : Type 0 where
+  pub count : n ≡ length taken
+  pub few : n ≤ g .header .budget
 
-judged : (g : Program) (slots : ℕ) (e : End) → GivenEnd e → stepsOf e ≤ g .header .budget → SearchedSheet g slots (judge (g .header) e)
-unfolding judge
-judged g slots (fails r p n) k h = failed g slots r p n k h
-judged g slots (finds n unseen) k h =
-    record { steps-in-budget = h; no-early-refusal = λ z. absurd (z refl); window-only = λ z _. absurd (z refl); place-only = λ _. refl }
-judged g slots (finds n (seen a b)) k h =
-    if-ind (leb (g .header .labelLow) a && leb b (g .header .labelHigh)) (five 0 0 n a b) (five (number labelBroken) 0 n a b) (SearchedSheet g slots)
-    (λ _. record { steps-in-budget = h; no-early-refusal = λ z. absurd (z refl); window-only = λ z _. absurd (z refl); place-only = λ _. refl })
-    (λ _. record { steps-in-budget = h; no-early-refusal = λ _. omega arith; window-only = λ _ z. absurd (z refl); place-only = λ _. refl })
+module _ (g : Program) (slots : ℕ) where
+  refused-with : (r p n : ℕ) → StepsAre g (statesTaken g slots) n → 10 ≤ r → ((r ≡ 10 → ⊥) → p ≡ 0) → SearchedSheet g slots (five r p n 0 0)
+  refused-with r p n h k z = record {
+    steps-are-taken = h .count;
+    steps-in-budget = h .few;
+    no-early-refusal = λ _. k;
+    window-only = λ _ _. (refl, refl);
+    place-only = z;
+  }
 
-searched : (g : Program) (e slots : ℕ) → SearchedSheet g slots (answerWith slots (got g e))
-unfolding answerWith searchFrom
-searched g e slots =
-    let r = search (g .header .budget) g slots (start g ∷ []) unseen 0 in
-    let b = g .header .budget in
-    let h : stepsOf r ≤ b = omega (arith, steps-are-states b g slots (start g ∷ []) unseen 0, takes-few b g slots (start g ∷ []) unseen) in
-    if-ind (eqb slots 0) (five (number outOfRoom) 0 0 0 0) (judge (g .header) r) (SearchedSheet g slots)
-    (λ _. failed g slots outOfRoom 0 0 no-room (omega arith))
-    (λ _. judged g slots r (search-given b g slots (start g ∷ []) unseen 0) h)
+  failed : (r : Refusal) (p n : ℕ) → Given r p → StepsAre g (statesTaken g slots) n → SearchedSheet g slots (five (number r) p n 0 0)
+  failed r p n (unreadable q) h = refused-with 10 p n h (omega arith) (λ k. absurd (k refl))
+  failed r p n is-stuck h = refused-with 11 0 n h (omega arith) (λ _. refl)
+  failed r p n past-limit h = refused-with 12 0 n h (omega arith) (λ _. refl)
+  failed r p n no-steps h = refused-with 13 0 n h (omega arith) (λ _. refl)
+  failed r p n no-room h = refused-with 14 0 n h (omega arith) (λ _. refl)
+
+  accepted : (n a b : ℕ) → StepsAre g (statesTaken g slots) n → SearchedSheet g slots (five 0 0 n a b)
+  accepted n a b h = record {
+    steps-are-taken = h .count;
+    steps-in-budget = h .few;
+    no-early-refusal = λ z. absurd (z refl);
+    window-only = λ z _. absurd (z refl);
+    place-only = λ _. refl;
+  }
+
+  broken : (n a b : ℕ) → StepsAre g (statesTaken g slots) n → SearchedSheet g slots (five 15 0 n a b)
+  broken n a b h = record {
+    steps-are-taken = h .count;
+    steps-in-budget = h .few;
+    no-early-refusal = λ _. omega arith;
+    window-only = λ _ z. absurd (z refl);
+    place-only = λ _. refl;
+  }
+
+  judged : (e : End) → GivenEnd e → StepsAre g (statesTaken g slots) (stepsOf e) → SearchedSheet g slots (judge (g .header) e)
+  unfolding judge
+  judged (fails r p n) k h = failed r p n k h
+  judged (finds n unseen) k h = accepted n 0 0 h
+  judged (finds n (seen a b)) k h =
+      if-ind (leb (g .header .labelLow) a && leb b (g .header .labelHigh)) (five 0 0 n a b) (five (number labelBroken) 0 n a b) (SearchedSheet g slots)
+      (λ _. accepted n a b h) (λ _. broken n a b h)
+
+  no-slots : T (eqb slots 0) → StepsAre g (statesTaken g slots) 0
+  unfolding statesTaken
+  no-slots t = if-ind (eqb slots 0) [] _ (λ xs. StepsAre g xs 0) (λ _. record { count = refl; few = omega arith }) (λ n. absurd (not-both (eqb slots 0) n t))
+
+  some-slots : T (not (eqb slots 0)) → StepsAre g (statesTaken g slots) (stepsOf (searchFrom g slots))
+  unfolding statesTaken searchFrom
+  some-slots n =
+      let b = g .header .budget in
+      let xs = start g ∷ [] in
+      if-ind (eqb slots 0) [] (takes b g slots xs unseen) (λ ys. StepsAre g ys (stepsOf (search b g slots xs unseen 0)))
+      (λ t. absurd (not-both (eqb slots 0) n t))
+      (λ _. record { count = omega (arith, steps-are-states b g slots xs unseen 0); few = omega (arith, steps-are-states b g slots xs unseen 0, takes-few b g slots xs unseen) })
+
+  searched : (e : ℕ) → SearchedSheet g slots (answerWith slots (got g e))
+  unfolding answerWith
+  searched e =
+      if-ind (eqb slots 0) (five (number outOfRoom) 0 0 0 0) (judge (g .header) (searchFrom g slots)) (SearchedSheet g slots)
+      (λ t. failed outOfRoom 0 0 no-room (no-slots t))
+      (λ n. judged (searchFrom g slots) (unfold searchFrom in search-given (g .header .budget) g slots (start g ∷ []) unseen 0) (some-slots n))
 
 pub searched-sheet : (sheet : Bytes) (n : ℕ) (g : Program) (e : ℕ) → readSheet sheet ≡ got g e → SearchedSheet g (n / numbersPerState) (answer sheet n)
 unfolding answer
 searched-sheet sheet n g e q =
-    subst (λ (x : Got Program). SearchedSheet g (n / numbersPerState) (answerWith (n / numbersPerState) x)) (sym q) (searched g e (n / numbersPerState))
+    subst (λ (x : Got Program). SearchedSheet g (n / numbersPerState) (answerWith (n / numbersPerState) x)) (sym q) (searched g (n / numbersPerState) e)
