@@ -14,7 +14,7 @@ use Rattle.rules.specs.Program.{Action, Statement, Thread, Program, isHa
 use Rattle.rules.specs.Search.{ThreadState, State, Live, Next, unread, states, Turn, refused, ended, follow, effect, before, events, liveFrom, statementAt, greatestLow, greatestHigh, turnBound, turnOf, turn, waits}
 use Rattle.rules.specs.Run.{RunThread, RunState, noRunThread, act, threadOf, statementOf, live, finished, greatestClock}
 use Rattle.rules.proofs.Base.{if-ind, not-both, all-below-elim}
-use Rattle.rules.proofs.Run.{Ends, acted, live-there}
+use Rattle.rules.proofs.Event.{Ends, acted, live-there}
 use Rattle.rules.proofs.Cover.{ThreadIn, ThreadsIn, no-threads, one-thread, In, Covers, CoversNext, covers-left, covers-right, effect-covers}
 
 -- the statement of the thread at index k
