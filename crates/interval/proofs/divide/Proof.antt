@@ -1,5 +1,5 @@
 -- `interval::divide` meets its contract. Assumes nothing.
-use mathlib.Core.Path.{_≡_, refl, sym, ap, subst, _∙_}
+use mathlib.Core.Path.{sym, ap, _∙_}
 use Rattle.rules.specs.Interval.{quotient}
 use lib.Signed.{quotZ}
 use mir.Syntax.{w32}

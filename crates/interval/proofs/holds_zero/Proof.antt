@@ -1,5 +1,5 @@
 -- `interval::holds_zero` meets its contract. Assumes nothing.
-use mathlib.Core.Path.{_≡_, refl, sym, ap, subst, _∙_}
+use mathlib.Core.Path.{sym, _∙_}
 use Rattle.rules.specs.Interval.{holdsZero}
 use borrow.Author.Needs.{needs}
 use Rattle.interval.proofs.holds_zero.Statement.{statement}

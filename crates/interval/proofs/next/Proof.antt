@@ -1,5 +1,5 @@
 -- `interval::next` meets its contract. Assumes nothing.
-use mathlib.Core.Path.{_≡_, refl, sym, ap, subst, _∙_}
+use mathlib.Core.Path.{sym, subst, _∙_}
 use mir.Syntax.{w32}
 use mir.Val.{SFits}
 use Rattle.interval.proofs.Laws.{plus-one}

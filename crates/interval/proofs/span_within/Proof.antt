@@ -1,5 +1,5 @@
 -- `interval::span_within` meets its contract. Assumes nothing.
-use mathlib.Core.Path.{_≡_, refl, sym, ap, subst, _∙_}
+use mathlib.Core.Path.{sym, _∙_}
 use Rattle.rules.specs.Interval.{interval, within, fits}
 use Rattle.interval.proofs.Laws.{in-fits}
 use Rattle.rules.specs.Refusal.{value}
