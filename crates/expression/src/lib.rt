@@ -5,8 +5,17 @@ pub mod kind; // what the code at a place says
 pub mod reading; // the place behind an expression, or the refusal
 
 pub use number::int32_at;
+
+pub mod evaluation; // the interval of an expression, or its fault
+pub mod parts; // the first fault of all parts of a condition, or none
+
+pub use evaluation::Evaluated;
+pub use evaluation::evaluate;
 pub use number::num16_at;
 pub use number::num32_at;
+pub use parts::Check;
+pub use parts::Checked;
+pub use parts::all_parts;
 pub use reading::Parsed;
 pub use reading::read_arith;
 pub use reading::read_condition;
