@@ -3,3 +3,6 @@ pub mod Kind
 pub mod Reading
 pub mod Evaluation
 pub mod Parts
+pub mod Comparison
+pub mod Narrowing
+pub mod Whole

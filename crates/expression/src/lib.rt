@@ -11,6 +11,17 @@ pub mod parts; // the first fault of all parts of a condition, or none
 
 pub use evaluation::Evaluated;
 pub use evaluation::evaluate;
+
+pub mod comparison; // registers narrowed by a comparison
+pub mod narrowing; // registers narrowed by a condition, yes and no
+
+pub use comparison::Narrowed;
+pub use narrowing::NarrowedAt;
+pub use narrowing::narrow_no;
+pub use narrowing::narrow_yes;
+
+pub mod whole; // what an assignment and a branch ask
+
 pub use number::num16_at;
 pub use number::num32_at;
 pub use parts::Check;
@@ -19,3 +30,6 @@ pub use parts::all_parts;
 pub use reading::Parsed;
 pub use reading::read_arith;
 pub use reading::read_condition;
+pub use whole::Branch;
+pub use whole::assigned_value;
+pub use whole::branch_on;
