@@ -1,0 +1,6 @@
+pub mod OutcomeLaws
+pub mod FieldLaws
+pub mod StatementLaws
+pub mod DecodeLaws
+pub mod CloseLaws
+pub mod LoopLaws
