@@ -1,20 +1,14 @@
--- What the readings of fields are, as the code goes through them.
-use mathlib.Core.Path.{_≡_, refl, sym, ap, ap₂, _∙_}
+-- What the readings of a header and of the fields of tags 1, 3 and 4 are, as the code goes through them.
+use mathlib.Core.Path.{_≡_, refl, sym, ap, _∙_}
 use mathlib.Core.Bool.{Bool, true, false, _&&_}
 use Prim.Native.Nat.{ℕ, zero, suc, _+_, _-_, _<_, _≤_}
 use native.Mathlib.Omega.{arith}
 use lib.Dec.{leb, ltb, eqb}
-use lib.IntN.{ℤ}
-use lib.Signed.{leZ}
 use lib.ListN.{length, getD, List·getD-eq-default}
-use mir.Syntax.{w32}
-use mir.Val.{SFits}
-use mir.Val as val
-use mir.Facts.{toZ-ofZ}
 use borrow.Author.Tests.{eq-eqb, ne-eqb, le-leb, lt-leb, leb-true, leb-false, eqb-true}
 use Rattle.rules.specs.Refusal.{short, outOfTurn, badLength, offRange}
 use Rattle.rules.specs.Constants.{mostRegisters}
-use Rattle.rules.specs.Format.{Bytes, byte, num16, num32, int32, Got, bad, got, need, hasHead, hasBody, due, sized, headerFits, readHeader, readLocks, readRange}
+use Rattle.rules.specs.Format.{Bytes, byte, num16, num32, Got, bad, got, need, hasHead, hasBody, due, sized, headerFits, readHeader, readLocks}
 use Rattle.refusal.specs.declared.Refusal.{Refusal}
 use Rattle.refusal.specs.declared.Refusal.the-variants.{Short, OutOfTurn, BadLength, OffRange}
 use Rattle.reader.specs.declared.outcome.End.{End}
@@ -217,18 +211,18 @@ module _ (s : Bytes) {d : End} (e : d ≡ endOf {A = ℕ} (due 1 s 0 (got 0 0)))
 
 module _ (s : Bytes) (at : ℕ) where
   -- the field of one byte that tags 3 and 4 have
-  abbrev pub Names : Got ℕ
-  Names = sized s at 1 (leb (byte s (at + 3)) mostRegisters) (byte s (at + 3))
+  abbrev pub namesField : Got ℕ
+  namesField = sized s at 1 (leb (byte s (at + 3)) mostRegisters) (byte s (at + 3))
 
   module _ {x : End} (e : x ≡ endOf {A = ℕ} (sized s at 1 true 1)) where
-    pub names-bad : {r : Refusal} {p : ℕ} → x ≡ Refused r p → x ≡ endOf Names
+    pub names-bad : {r : Refusal} {p : ℕ} → x ≡ Refused r p → x ≡ endOf namesField
     names-bad f = sized-bad s at 1 e _ _ f
 
     module _ {q : ℕ} (f : x ≡ At q) (n : ℕ) (en : n ≡ byte s (at + 3)) where
-      pub names-yes : n ≤ 8 → At q ≡ endOf Names
+      pub names-yes : n ≤ 8 → At q ≡ endOf namesField
       names-yes h = let m : byte s (at + 3) ≤ 8 = omega arith in sized-yes s at 1 e f _ _ (le-leb (byte s (at + 3)) 8 m)
 
-      pub names-no : 8 < n → Refused OffRange at ≡ endOf Names
+      pub names-no : 8 < n → Refused OffRange at ≡ endOf namesField
       names-no h = let m : 8 < byte s (at + 3) = omega arith in sized-no s at 1 e f _ _ (lt-leb (byte s (at + 3)) 8 m)
 
   module _ {d : End} (e : d ≡ endOf (due 3 s at (got at at))) where
@@ -236,31 +230,24 @@ module _ (s : Bytes) (at : ℕ) where
     unfolding readLocks
     locks-undue f = due-bad 3 s at e _ f
 
-    pub locks-due : {p : ℕ} → d ≡ At p → {x : End} → x ≡ endOf Names → x ≡ endOf (readLocks s at)
+    pub locks-due : {p : ℕ} → d ≡ At p → {x : End} → x ≡ endOf namesField → x ≡ endOf (readLocks s at)
     unfolding readLocks
     locks-due f x = due-on 3 s at e f _ x
 
-  pub open-short : {f : Bool} → f ≡ hasHead s at → f ≡ false → Refused Short at ≡ endOf Names
+  pub open-short : {f : Bool} → f ≡ hasHead s at → f ≡ false → Refused Short at ≡ endOf namesField
   unfolding sized hasHead hasBody
   open-short {f} e n =
       let h = leb-false (at + 3) (length s) (sym e ∙ n) in
       let k : length s < at + 3 + num16 s (at + 1) = omega arith in need-no _ short _ _ (lt-leb (at + 3 + num16 s (at + 1)) (length s) k)
 
--- ---- a range
+-- a field that was read has its header in the sheet
+field-head : (b d o : Bool) (at q a : ℕ) {x : End} {p : ℕ} → x ≡ endOf (core b d o at q a) → x ≡ At p → b ≡ true
+unfolding core need endOf
+field-head true d o at q a e f = refl
+field-head false d o at q a e f = apart f e
 
-pub leZ-of : (a b : ℤ) {t : Bool} → SFits w32 a → SFits w32 b → leZ (val.toZ w32 (val.ofZ w32 a)) (val.toZ w32 (val.ofZ w32 b)) ≡ t → leZ a b ≡ t
-leZ-of a b f g h = ap₂ leZ (sym (toZ-ofZ f)) (sym (toZ-ofZ g)) ∙ h
-
-module _ (s : Bytes) (at : ℕ) {x : End} (e : x ≡ endOf {A = ℕ} (sized s at 8 true 8)) where
-  pub range-bad : {r : Refusal} {p : ℕ} → x ≡ Refused r p → x ≡ endOf (readRange s at)
-  unfolding readRange
-  range-bad f = sized-bad s at 8 e _ _ f
-
-  module _ {q : ℕ} (f : x ≡ At q) (a b : ℤ) (ea : a ≡ int32 s (at + 3)) (eb : b ≡ int32 s (at + 7)) where
-    pub range-yes : leZ a b ≡ true → At q ≡ endOf (readRange s at)
-    unfolding readRange
-    range-yes h = sized-yes s at 8 e f _ _ (ap₂ leZ (sym ea) (sym eb) ∙ h)
-
-    pub range-no : leZ a b ≡ false → Refused OffRange at ≡ endOf (readRange s at)
-    unfolding readRange
-    range-no h = sized-no s at 8 e f _ _ (ap₂ leZ (sym ea) (sym eb) ∙ h)
+pub open-room : (s : Bytes) (at : ℕ) {x : End} {p : ℕ} → x ≡ endOf (namesField s at) → x ≡ At p → at + 3 ≤ length s
+unfolding sized hasBody core
+open-room s at e f =
+    let h = field-head (hasBody s at) (eqb (num16 s (at + 1)) 1) (leb (byte s (at + 3)) mostRegisters) at (at + 3 + 1) (byte s (at + 3)) e f in
+    let k = leb-true (at + 3 + num16 s (at + 1)) (length s) h in omega arith

@@ -55,7 +55,7 @@ refusal-of-rule OutOfSteps = refl
 refusal-of-rule OutOfRoom = refl
 refusal-of-rule LabelBroken = refl
 
-same-rule : (k : R.Refusal) {r : Refusal} → refusalOf k ≡ r → k ≡ ruleOf r
+pub same-rule : (k : R.Refusal) {r : Refusal} → refusalOf k ≡ r → k ≡ ruleOf r
 same-rule k h = sym (rule-of-refusal k) ∙ ap ruleOf h
 
 -- ---- through the connectives

@@ -1,7 +1,6 @@
 // Fields: a byte, a header, a length, and the fields of fixed length.
 // Every function is given the whole sheet s and the place of a field in it.
 use crate::outcome::End;
-use expression::int32_at;
 use expression::num16_at;
 use expression::num32_at;
 use refusal::Refusal;
@@ -11,7 +10,7 @@ ghost use Prim.Native.Nat.{_+_, _≤_, _<_};
 ghost use lib.Dec.{leb};
 ghost use lib.ListN.{length};
 ghost use Rattle.rules.specs.Constants.{mostRegisters};
-ghost use Rattle.rules.specs.Format.{got, byte, num16, hasHead, hasBody, due, sized, headerFits, readHeader, readLocks, readRange};
+ghost use Rattle.rules.specs.Format.{got, byte, num16, hasHead, hasBody, due, sized, headerFits, readHeader, readLocks};
 ghost use Rattle.reader.specs.Outcome.{endOf};
 
 // Locks, and a thread's registers: at most 8.
@@ -170,32 +169,4 @@ pub fn open_end(s: &[u8], at: usize) -> End
         return names_end(s, at);
     }
     End::Refused(Refusal::Short, at)
-}
-
-// ---- tags 2 and 5: a range
-
-pub fn range_end(s: &[u8], at: usize) -> End
-    requires { ⌜ at + 3 ≤ length (now s) ⌝ }
-    ensures { λ r. ⌜ r ≡ endOf (readRange (now (s .entry)) at) ⌝ }
-{
-    let x = fixed_end(s, at, 8);
-    let End::At(q) = x else {
-        return x;
-    };
-    let a = int32_at(s, at + 3);
-    let b = int32_at(s, at + 7);
-    if a.0 <= b.0 {
-        return End::At(q);
-    }
-    End::Refused(Refusal::OffRange, at)
-}
-
-pub fn register_end(s: &[u8], at: usize) -> End
-    ensures { λ r. ⌜ r ≡ endOf (due 5 (now (s .entry)) at (readRange (now (s .entry)) at)) ⌝ }
-{
-    let d = due_at(s, at, 5);
-    let End::At(_) = d else {
-        return d;
-    };
-    range_end(s, at)
 }

@@ -1,5 +1,5 @@
 use borrow.Author.Needs.{needs}
-use Rattle.reader.proofs.LoopLaws.{StatementsSoFar, statements-start, table-length, statements-wrong, statements-done, statements-full, statements-room, statements-bad, statements-more}
+use Rattle.reader.proofs.PlaceLaws.{StatementsSoFar, statements-start, table-length, statements-wrong, statements-done, statements-full, statements-room, statements-bad, statements-more}
 use native.Mathlib.Omega.{arith}
 use Prim.Native.Nat.{_-_}
 use Rattle.rules.specs.Constants.{mostStatements}
