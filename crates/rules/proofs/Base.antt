@@ -5,7 +5,7 @@ use Prim.Native.Nat.{ℕ, zero, suc, _<_}
 use native.Mathlib.Nat.{not-suc-le-zero}
 use native.Mathlib.Decide.{ℕ-discrete}
 use native.Mathlib.Omega.{arith}
-use mathlib.Core.Path.{subst, sym}
+use mathlib.Core.Path.{_≡_, refl, subst, sym}
 use lib.Dec.{T}
 use Rattle.rules.specs.Base.{if_then_else_, allBelow, Each, nil, _&_}
 
@@ -46,6 +46,13 @@ not-intro false f = tt
 pub not-elim : (b : Bool) → (T (not b) → ⊥) → T b
 not-elim true f = tt
 not-elim false f = f tt
+
+-- two tests that imply each other are the same
+pub same-test : (a b : Bool) → (T a → T b) → (T b → T a) → a ≡ b
+same-test true true f g = refl
+same-test true false f g = absurd (f tt)
+same-test false true f g = absurd (g tt)
+same-test false false f g = refl
 
 -- ---- every number below n
 

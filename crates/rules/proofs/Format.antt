@@ -7,7 +7,7 @@ use Prim.Native.Nat.{ℕ, zero, suc, _+_, _≤_, zero-le}
 use native.Mathlib.Nat.{le-refl}
 use native.Mathlib.Omega.{arith}
 use lib.Dec.{T, leb, eqb, leb→le, eqb→eq}
-use lib.Signed.{leZ, _≤ℤ_, leZ-yes}
+use lib.Signed.{leZ, leZ-yes}
 use lib.ListN.{length, getD}
 use Rattle.rules.specs.Base.{if_then_else_, Each, nil, _&_}
 use Rattle.rules.specs.Refusal.{Refusal, short, badLength, offRange, noSuchName, noHalt, tooMany, tooLong}
@@ -16,6 +16,7 @@ use Rattle.rules.specs.Interval.{Interval, interval}
 use Rattle.rules.specs.Program.{Action, halt, isHalt, Statement, Thread, Program, noStatement, noThread}
 use Rattle.rules.specs.Format.{Bytes, Got, bad, got, andThen, need, mapGot, Here, wrong, more, done, onHere, byte, num16, int32, timesFit, readAction, hasBody, Names, readContents, readStatement, readMany, readStatements, statementHere, lastHalts, targetsFit, targetFits, close, due, sized, readRange, variableHere, readVariables, readRegisters, readThread, threadHere, readThreads, readHeader, readLocks, readSheet}
 use Rattle.rules.proofs.Base.{if-ind, and-left, and-right, not-both, each-snoc}
+use Rattle.rules.proofs.Interval.{Ordered}
 
 -- ---- a property of what is got
 
@@ -87,10 +88,6 @@ close-if P (bad r p) h = tt
 close-if P (got xs q) h = last-if P xs (targetsFit (length xs) xs (got xs q)) (targets-if P (length xs) xs (got xs q) h)
 
 -- ---- ranges
-
--- low to high
-abbrev pub Ordered : Interval → Type 0
-Ordered i = i .low ≤ℤ i .high
 
 pub range-ordered : (s : Bytes) (at : ℕ) → If Ordered (readRange s at)
 unfolding readRange
