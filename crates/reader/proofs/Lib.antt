@@ -1,0 +1,11 @@
+pub mod OutcomeLaws
+pub mod FieldLaws
+pub mod LoopLaws
+pub mod RangeLaws
+pub mod StatementLaws
+pub mod DecodeLaws
+pub mod CloseLaws
+pub mod PlaceLaws
+pub mod ThreadLaws
+pub mod TableLaws
+pub mod SheetLaws
