@@ -1,0 +1,72 @@
+// The loop over the stack.
+use crate::plan::Plan;
+use crate::survey::greater;
+use crate::survey::lesser;
+use crate::turn::Turned;
+use crate::turn::turn;
+use refusal::Refusal;
+use state::State;
+use state::cells::load;
+use state::cells::store;
+
+// The window found so far.
+pub struct Window {
+    pub seen: bool,
+    pub low: u32,
+    pub high: u32,
+}
+
+fn widen(w: Window, low: u32, high: u32) -> Window {
+    if w.seen {
+        return Window {
+            seen: true,
+            low: lesser(w.low, low),
+            high: greater(w.high, high),
+        };
+    }
+    Window {
+        seen: true,
+        low: low,
+        high: high,
+    }
+}
+
+// How a search ends: a refusal with its place and the steps, or the steps and the window.
+pub enum Outcome {
+    Fails(Refusal, usize, u32),
+    Finds(u32, Window),
+}
+
+pub fn search(sheet: &[u8], places: &[u16; 256], plan: Plan, first: State, budget: u32, work: &mut [i32], slots: usize) -> Outcome {
+    store(work, 0, first);
+    let mut height: usize = 1;
+    let mut steps: u32 = 0;
+    let mut w = Window {
+        seen: false,
+        low: 0,
+        high: 0,
+    };
+    while 0 < height {
+        if steps == budget {
+            return Outcome::Fails(Refusal::OutOfSteps, 0, steps);
+        }
+        height -= 1;
+        let s = load(work, height);
+        steps += 1;
+        match turn(sheet, places, plan, s, work, height, slots) {
+            Turned::Refused(r, p) => {
+                return Outcome::Fails(r, p, steps);
+            }
+            Turned::Ended(a, b) => {
+                w = widen(w, a, b);
+            }
+            Turned::Height(h) => {
+                if slots < h {
+                    return Outcome::Fails(Refusal::OutOfRoom, 0, steps);
+                }
+                height = h;
+            }
+        }
+    }
+    Outcome::Finds(steps, w)
+}

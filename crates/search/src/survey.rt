@@ -1,0 +1,93 @@
+// The threads of a state at the beginning of a turn, from the last to the first.
+use crate::act::may_take;
+use crate::fetch::Fetched;
+use crate::fetch::fetch;
+use crate::fetch::is_halt;
+use crate::plan::Plan;
+use reader::decoding::Action;
+use state::State;
+use state::Thread;
+
+// Whether some thread is live; whether every live one waits for a lock; the turn's bound, where some thread is live; the
+// greatest clock low and high.
+pub struct Survey {
+    pub live: bool,
+    pub waiting: bool,
+    pub bound: u32,
+    pub low: u32,
+    pub high: u32,
+}
+
+pub fn greater(a: u32, b: u32) -> u32 {
+    if a < b { b } else { a }
+}
+
+pub fn lesser(a: u32, b: u32) -> u32 {
+    if a < b { a } else { b }
+}
+
+// Thread t stands at a lock that another owns.
+fn waits(t: usize, action: Action, owners: [u8; 8]) -> bool {
+    match action {
+        Action::Lock(l) => {
+            let o = owners[l];
+            !may_take(t, o)
+        }
+        _ => false,
+    }
+}
+
+// One more live thread: its last tick, and whether it waits.
+fn with_live(a: Survey, due: u32, waits: bool) -> Survey {
+    let bound = if a.live { lesser(due, a.bound) } else { due };
+    Survey {
+        live: true,
+        waiting: waits && a.waiting,
+        bound: bound,
+        low: a.low,
+        high: a.high,
+    }
+}
+
+fn with_clock(a: Survey, low: u32, high: u32) -> Survey {
+    Survey {
+        live: a.live,
+        waiting: a.waiting,
+        bound: a.bound,
+        low: greater(low, a.low),
+        high: greater(high, a.high),
+    }
+}
+
+// One more thread.
+fn with_thread(a: Survey, t: usize, x: Thread, f: Fetched, owners: [u8; 8]) -> Survey {
+    let low = x.clock.low.0;
+    let high = x.clock.high.0;
+    let b = with_clock(a, low, high);
+    let action = f.action;
+    if is_halt(action) {
+        return b;
+    }
+    let due = high + f.greatest;
+    let w = waits(t, action, owners);
+    with_live(b, due, w)
+}
+
+pub fn survey(sheet: &[u8], places: &[u16; 256], plan: Plan, s: State) -> Survey {
+    let owners = s.owners;
+    let mut a = Survey {
+        live: false,
+        waiting: true,
+        bound: 0,
+        low: 0,
+        high: 0,
+    };
+    let mut t = plan.threads;
+    while 0 < t {
+        t -= 1;
+        let x = s.threads[t];
+        let f = fetch(sheet, places, plan, t, x.at);
+        a = with_thread(a, t, x, f, owners);
+    }
+    a
+}
