@@ -1,11 +1,7 @@
-pub mod OutcomeLaws
-pub mod FieldLaws
-pub mod LoopLaws
-pub mod RangeLaws
-pub mod StatementLaws
-pub mod DecodeLaws
-pub mod CloseLaws
-pub mod PlaceLaws
-pub mod ThreadLaws
-pub mod TableLaws
-pub mod SheetLaws
+-- The reader's laws: the loops, the whole sheet, and what later layers may rely on of a sheet that reads (`Facts`).
+pub mod Loops
+pub mod Sheet
+pub mod IfAt
+pub mod StatementFacts
+pub mod ThreadFacts
+pub mod Facts

@@ -4,6 +4,7 @@ pub mod fields; // a header, a length, and the fields of tags 1, 3 and 4
 pub mod ranges; // the fields of tags 2 and 5
 pub mod statements; // the field of tag 6, and the closing of a thread
 pub mod threads; // threads, and the tables of an index
+pub mod decoding; // a statement, by its place
 
 use crate::fields::byte_at;
 use crate::fields::header_end;

@@ -1,24 +1,18 @@
-use Rattle.reader.proofs.FieldLaws.{past-end}
+-- `reader::fields::byte_at` meets its contract. Assumes nothing.
 use borrow.Author.Needs.{needs}
+use Rattle.reader.proofs.fields.Laws.{past-end}
 use Rattle.reader.proofs.fields.byte_at.Statement.{statement}
 use Rattle.reader.proofs.fields.byte_at.Tie as tie
-use Rattle.reader.proofs.fields.byte_at.Reads as reads
-use Rattle.reader.proofs.fields.byte_at.Lts as lts
-use Rattle.reader.proofs.fields.wide.Reads as wide-reads
 
--- src/fields.rt:33:21
 shared-slice-read-wide : tie.Need-shared-slice-read-wide
 shared-slice-read-wide c = search needs
 
--- src/fields.rt:33:9
 wide-requires : tie.Need-wide-requires
 wide-requires c κs = search needs
 
--- src/fields.rt:33:9
 returns : tie.Need-returns
 returns c = search needs
 
--- src/fields.rt:29:1
 returns-2 : tie.Need-returns-2
 returns-2 c = let arg = c .before .before .args in
     (past-end (arg .s .now) (arg .p) (c .if1 .left), search needs)

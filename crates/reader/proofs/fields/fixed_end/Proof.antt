@@ -1,40 +1,30 @@
-use Rattle.reader.proofs.FieldLaws.{fixed-short, fixed-whole, fixed-length}
+-- `reader::fields::fixed_end` meets its contract. Assumes nothing.
 use borrow.Author.Needs.{needs}
+use Rattle.reader.proofs.fields.Laws.{fixed-short, fixed-whole, fixed-length}
 use Rattle.reader.proofs.fields.fixed_end.Statement.{statement}
 use Rattle.reader.proofs.fields.fixed_end.Tie as tie
-use Rattle.reader.proofs.fields.fixed_end.Reads as reads
-use Rattle.reader.proofs.fields.fixed_end.Lts as lts
-use Rattle.reader.proofs.fields.length_at.Reads as length-at-reads
 
--- src/fields.rt:82:9
 length-at-requires : tie.Need-length-at-requires
 length-at-requires c κs = search needs
 
--- src/fields.rt:83:18
 add-if1 : tie.Need-add-if1
 add-if1 c = search needs
 
--- src/fields.rt:83:18
 add-if1-2 : tie.Need-add-if1-2
 add-if1-2 c = search needs
 
--- src/fields.rt:84:9
 returns : tie.Need-returns
 returns c = fixed-short _ _ _ _ (c .before .length-at .ensures .0) _ _ (c .if1 .taken)
 
--- src/fields.rt:87:24
 add-t10 : tie.Need-add-t10
 add-t10 c = search needs
 
--- src/fields.rt:87:24
 add-t11 : tie.Need-add-t11
 add-t11 c = search needs
 
--- src/fields.rt:87:9
 returns-2 : tie.Need-returns-2
 returns-2 c = fixed-whole _ _ _ _ (c .before .before .length-at .ensures .0) _ (c .before .if1 .left) (c .if2 .taken)
 
--- src/fields.rt:78:1
 returns-3 : tie.Need-returns-3
 returns-3 c = fixed-length _ _ _ _ (c .before .before .length-at .ensures .0) _ _ (c .before .if1 .left) (c .if2 .left)
 

@@ -1,30 +1,23 @@
-use Rattle.reader.proofs.FieldLaws.{no-limit, limit-great, no-budget, budget-great, label-reversed, label-in-order}
+-- `reader::fields::header_fits` meets its contract. Assumes nothing.
+use Rattle.reader.proofs.fields.Laws.{no-limit, limit-great, no-budget, budget-great, label-reversed, label-in-order}
 use Rattle.reader.proofs.fields.header_fits.Statement.{statement}
 use Rattle.reader.proofs.fields.header_fits.Tie as tie
-use Rattle.reader.proofs.fields.header_fits.Reads as reads
-use Rattle.reader.proofs.fields.header_fits.Lts as lts
 
--- src/fields.rt:98:9
 returns : tie.Need-returns
 returns c = no-limit _ _ _ _ (c .if1 .taken)
 
--- src/fields.rt:101:9
 returns-2 : tie.Need-returns-2
 returns-2 c = limit-great _ _ _ _ (c .before .if1 .left) (c .if2 .taken)
 
--- src/fields.rt:104:9
 returns-3 : tie.Need-returns-3
 returns-3 c = no-budget _ _ _ _ (c .before .before .if1 .left) (c .before .if2 .left) (c .if3 .taken)
 
--- src/fields.rt:107:9
 returns-4 : tie.Need-returns-4
 returns-4 c = budget-great _ _ _ _ (c .before .before .before .if1 .left) (c .before .before .if2 .left) (c .before .if3 .left) (c .if4 .taken)
 
--- src/fields.rt:110:9
 returns-5 : tie.Need-returns-5
 returns-5 c = label-reversed _ _ _ _ (c .before .before .before .before .if1 .left) (c .before .before .before .if2 .left) (c .before .before .if3 .left) (c .before .if4 .left) (c .if5 .taken)
 
--- src/fields.rt:94:1
 returns-6 : tie.Need-returns-6
 returns-6 c = label-in-order _ _ _ _ (c .before .before .before .before .if1 .left) (c .before .before .before .if2 .left) (c .before .before .if3 .left) (c .before .if4 .left) (c .if5 .left)
 

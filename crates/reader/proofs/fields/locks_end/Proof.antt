@@ -1,32 +1,24 @@
-use Rattle.reader.proofs.FieldLaws.{locks-undue, locks-due, due-room}
+-- `reader::fields::locks_end` meets its contract. Assumes nothing.
 use borrow.Author.Needs.{needs}
+use Rattle.reader.proofs.fields.Laws.{locks-undue, locks-due, due-room}
 use Rattle.reader.proofs.fields.locks_end.Statement.{statement}
 use Rattle.reader.proofs.fields.locks_end.Tie as tie
-use Rattle.reader.proofs.fields.locks_end.Reads as reads
-use Rattle.reader.proofs.fields.locks_end.Lts as lts
-use Rattle.reader.proofs.fields.due_at.Reads as due-at-reads
-use Rattle.reader.proofs.fields.names_end.Reads as names-end-reads
 
--- src/fields.rt:156:9
 due-at-requires : tie.Need-due-at-requires
 due-at-requires c κs = search needs
 
 enum-told : tie.Need-enum-told
 enum-told c = search needs
 
--- src/fields.rt:158:9
 enum-told-2 : tie.Need-enum-told-2
 enum-told-2 c = search needs
 
--- src/fields.rt:158:9
 returns : tie.Need-returns
 returns c = locks-undue _ _ (c .before .before .due-at .ensures) (c .enum-told2 .given .1)
 
--- src/fields.rt:160:5
 names-end-requires : tie.Need-names-end-requires
 names-end-requires c κs = due-room 3 _ _ (c .before .before .due-at .ensures) (c .enum-told .given .1)
 
--- src/fields.rt:153:1
 returns-2 : tie.Need-returns-2
 returns-2 c = locks-due _ _ (c .before .before .before .due-at .ensures) (c .before .enum-told .given .1) (c .names-end .ensures)
 

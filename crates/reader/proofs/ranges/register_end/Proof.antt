@@ -1,32 +1,24 @@
-use Rattle.reader.proofs.FieldLaws.{due-bad, due-room, due-on}
+-- `reader::ranges::register_end` meets its contract. Assumes nothing.
 use borrow.Author.Needs.{needs}
+use Rattle.reader.proofs.fields.Laws.{due-bad, due-room, due-on}
 use Rattle.reader.proofs.ranges.register_end.Statement.{statement}
 use Rattle.reader.proofs.ranges.register_end.Tie as tie
-use Rattle.reader.proofs.ranges.register_end.Reads as reads
-use Rattle.reader.proofs.ranges.register_end.Lts as lts
-use Rattle.reader.proofs.fields.due_at.Reads as due-at-reads
-use Rattle.reader.proofs.ranges.range_end.Reads as range-end-reads
 
--- src/ranges.rt:194:9
 due-at-requires : tie.Need-due-at-requires
 due-at-requires c κs = search needs
 
 enum-told : tie.Need-enum-told
 enum-told c = search needs
 
--- src/ranges.rt:196:9
 enum-told-2 : tie.Need-enum-told-2
 enum-told-2 c = search needs
 
--- src/ranges.rt:196:9
 returns : tie.Need-returns
 returns c = due-bad 5 _ _ (c .before .before .due-at .ensures) _ (c .enum-told2 .given .1)
 
--- src/ranges.rt:198:5
 range-end-requires : tie.Need-range-end-requires
 range-end-requires c κs = due-room 5 _ _ (c .before .before .due-at .ensures) (c .enum-told .given .1)
 
--- src/ranges.rt:191:1
 returns-2 : tie.Need-returns-2
 returns-2 c = due-on 5 _ _ (c .before .before .before .due-at .ensures) (c .before .enum-told .given .1) _ (c .range-end .ensures)
 

@@ -1,63 +1,48 @@
-use Rattle.reader.proofs.CloseLaws.{last-none, last-halts, last-runs}
-use native.Mathlib.Omega.{arith}
+-- `reader::statements::close_end` meets its contract. Assumes nothing.
 use Prim.Native.Nat.{_+_, _-_}
+use native.Mathlib.Omega.{arith}
 use borrow.Author.Needs.{needs}
+use Rattle.reader.proofs.statements.Closing.{last-none, last-halts, last-runs}
 use Rattle.reader.proofs.statements.close_end.Statement.{statement}
 use Rattle.reader.proofs.statements.close_end.Tie as tie
-use Rattle.reader.proofs.statements.close_end.Reads as reads
-use Rattle.reader.proofs.statements.close_end.Lts as lts
-use Rattle.reader.proofs.fields.byte_at.Reads as byte-at-reads
-use Rattle.reader.proofs.statements.targets_end.Reads as targets-end-reads
 
--- src/statements.rt:303:9
 targets-end-requires : tie.Need-targets-end-requires
 targets-end-requires c κs = search needs
 
--- src/statements.rt:303:9
 returns : tie.Need-returns
 returns c = let arg = c .before .before .before .before .args in
     last-none (arg .s .now) (arg .n) (arg .places .now) (arg .base) (c .before .before .before .before .pre) _ (c .before .if1 .taken) (c .targets-end .ensures)
 
--- src/statements.rt:305:20
 add-p : tie.Need-add-p
 add-p c = search needs
 
--- src/statements.rt:305:20
 sub-p : tie.Need-sub-p
 sub-p c = search needs
 
--- src/statements.rt:305:13
 mul-p : tie.Need-mul-p
 mul-p c = search needs
 
--- src/statements.rt:305:13
 shared-slice-read-p : tie.Need-shared-slice-read-p
 shared-slice-read-p c = search needs
 
--- src/statements.rt:305:13
 cast-p : tie.Need-cast-p
 cast-p c = let arg = c .before .before .before .before .args in
     let h = c .shared-slice-known3 .given (arg .base + arg .n - 1) in omega arith
 
--- src/statements.rt:306:24
 add-byte-at : tie.Need-add-byte-at
 add-byte-at c = let arg = c .before .before .before .before .args in
     let h = c .shared-slice-known3 .given (arg .base + arg .n - 1) in omega arith
 
--- src/statements.rt:306:9
 byte-at-requires : tie.Need-byte-at-requires
 byte-at-requires c κs = search needs
 
--- src/statements.rt:308:9
 targets-end-requires-2 : tie.Need-targets-end-requires-2
 targets-end-requires-2 c κs = search needs
 
--- src/statements.rt:308:9
 returns-2 : tie.Need-returns-2
 returns-2 c = let arg = c .before .before .before .before .before .before .before .args in
     last-halts (arg .s .now) (arg .n) (arg .places .now) (arg .base) (c .before .before .before .before .before .before .before .pre) _ (c .before .before .before .before .if1 .left) _ (c .before .before .byte-at .ensures .0) (c .before .if2 .taken) (c .targets-end2 .ensures)
 
--- src/statements.rt:298:1
 returns-3 : tie.Need-returns-3
 returns-3 c = let arg = c .before .before .before .before .before .before .args in
     last-runs (arg .s .now) (arg .n) (arg .places .now) (arg .base) (c .before .before .before .before .before .before .pre) _ (c .before .before .before .if1 .left) _ (c .before .byte-at .ensures .0) (c .if2 .left)

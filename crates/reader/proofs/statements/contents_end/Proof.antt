@@ -1,74 +1,53 @@
-use Rattle.reader.proofs.StatementLaws.{contents-short, contents-code, contents-length, contents-times, contents-action}
-use native.Mathlib.Omega.{arith}
+-- `reader::statements::contents_end` meets its contract. Assumes nothing.
 use mathlib.Core.Path.{sym, _∙_}
+use native.Mathlib.Omega.{arith}
 use borrow.Author.Needs.{needs}
+use Rattle.reader.proofs.statements.Laws.{contents-short, contents-code, contents-length, contents-times, contents-action}
 use Rattle.reader.proofs.statements.contents_end.Statement.{statement}
 use Rattle.reader.proofs.statements.contents_end.Tie as tie
-use Rattle.reader.proofs.statements.contents_end.Reads as reads
-use Rattle.reader.proofs.statements.contents_end.Lts as lts
-use Rattle.reader.proofs.fields.byte_at.Reads as byte-at-reads
-use Rattle.reader.proofs.fields.length_at.Reads as length-at-reads
-use Rattle.reader.proofs.statements.action_end.Reads as action-end-reads
-use Rattle.reader.proofs.statements.length_fits.Reads as length-fits-reads
-use Rattle.reader.proofs.statements.times_fit.Reads as times-fit-reads
 
--- src/statements.rt:158:9
 length-at-requires : tie.Need-length-at-requires
 length-at-requires c κs = search needs
 
--- src/statements.rt:160:9
 returns : tie.Need-returns
 returns c = contents-short _ _ _ _ (c .before .length-at .ensures .0) (c .if1 .taken)
 
--- src/statements.rt:162:24
 add-byte-at : tie.Need-add-byte-at
 add-byte-at c = search needs
 
--- src/statements.rt:162:9
 byte-at-requires : tie.Need-byte-at-requires
 byte-at-requires c κs = search needs
 
--- src/statements.rt:164:9
 returns-2 : tie.Need-returns-2
 returns-2 c = contents-code _ _ _ _ (c .before .before .before .length-at .ensures .0) (c .before .before .if1 .left) _ (c .before .byte-at .ensures .0) (c .if2 .taken)
 
--- src/statements.rt:166:8
 length-fits-requires : tie.Need-length-fits-requires
 length-fits-requires c κs = search needs
 
--- src/statements.rt:167:33
 add-num16-at : tie.Need-add-num16-at
 add-num16-at c = search needs
 
--- src/statements.rt:167:13
 num16-at-requires : tie.Need-num16-at-requires
 num16-at-requires c κs = search needs
 
--- src/statements.rt:168:36
 add-num16-at-2 : tie.Need-add-num16-at-2
 add-num16-at-2 c = search needs
 
--- src/statements.rt:168:13
 num16-at-requires-2 : tie.Need-num16-at-requires-2
 num16-at-requires-2 c κs = search needs
 
--- src/statements.rt:169:12
 times-fit-requires : tie.Need-times-fit-requires
 times-fit-requires c κs = search needs
 
--- src/statements.rt:170:13
 action-end-requires : tie.Need-action-end-requires
 action-end-requires c κs = (c .before .before .before .before .before .before .if2 .left, sym (c .before .before .before .before .before .length-fits .ensures) ∙ c .before .before .before .before .if3 .taken, c .before .before .before .before .before .before .before .before .if1 .left, let h = c .before .before .before .before .before .before .before .before .before .before .before .pre in let k = c .before .before .before .before .before .before .before .before .before .length-at .ensures in omega arith)
 
--- src/statements.rt:170:13
 returns-3 : tie.Need-returns-3
 returns-3 c = contents-action _ _ _ _ (c .before .before .before .before .before .before .before .before .before .before .length-at .ensures .0) (c .before .before .before .before .before .before .before .before .before .if1 .left) _ (c .before .before .before .before .before .before .before .before .byte-at .ensures .0) (c .before .before .before .before .before .before .before .if2 .left) _ _ (c .before .before .before .before .num16-at .ensures .0) (c .before .before .before .num16-at2 .ensures .0) (c .before .before .before .before .before .before .length-fits .ensures) (c .before .before .before .before .before .if3 .taken) (c .before .before .times-fit .ensures) (c .before .if4 .taken) (c .action-end .ensures)
 
--- src/statements.rt:172:9
 returns-4 : tie.Need-returns-4
 returns-4 c = contents-times _ _ _ _ (c .before .before .before .before .before .before .before .before .before .length-at .ensures .0) (c .before .before .before .before .before .before .before .before .if1 .left) _ (c .before .before .before .before .before .before .before .byte-at .ensures .0) (c .before .before .before .before .before .before .if2 .left) _ _ (c .before .before .before .num16-at .ensures .0) (c .before .before .num16-at2 .ensures .0) (c .before .before .before .before .before .length-fits .ensures) (c .before .before .before .before .if3 .taken) (c .before .times-fit .ensures) (c .if4 .left)
 
--- src/statements.rt:154:1
 returns-5 : tie.Need-returns-5
 returns-5 c = contents-length _ _ _ _ (c .before .before .before .before .before .length-at .ensures .0) (c .before .before .before .before .if1 .left) _ (c .before .before .before .byte-at .ensures .0) (c .before .before .if2 .left) (c .before .length-fits .ensures) (c .if3 .left)
 

@@ -1,27 +1,21 @@
-use Rattle.reader.proofs.StatementLaws.{exact-at, exact-refused, exact-off}
+-- `reader::statements::exact_end` meets its contract. Assumes nothing.
 use borrow.Author.Needs.{needs}
+use Rattle.reader.proofs.statements.Laws.{exact-at, exact-refused, exact-off}
 use Rattle.reader.proofs.statements.exact_end.Statement.{statement}
 use Rattle.reader.proofs.statements.exact_end.Tie as tie
-use Rattle.reader.proofs.statements.exact_end.Reads as reads
-use Rattle.reader.proofs.statements.exact_end.Lts as lts
 
--- src/statements.rt:42:25
 enum-known-x : tie.Need-enum-known-x
 enum-known-x c = search needs
 
--- src/statements.rt:43:22
 enum-known-x-2 : tie.Need-enum-known-x-2
 enum-known-x-2 c = search needs
 
--- src/statements.rt:45:17
 returns : tie.Need-returns
 returns c = exact-at _ _ (c .before .before .x2 .given .1) (c .if1 .taken)
 
--- src/statements.rt:38:1
 returns-2 : tie.Need-returns-2
 returns-2 c = exact-refused _ _ (c .before .x .given .1)
 
--- src/statements.rt:38:1
 returns-3 : tie.Need-returns-3
 returns-3 c = exact-off _ _ (c .before .before .x2 .given .1) (c .if1 .left)
 

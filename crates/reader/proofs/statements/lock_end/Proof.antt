@@ -1,20 +1,15 @@
-use Rattle.reader.proofs.StatementLaws.{no-lock, locks-it}
+-- `reader::statements::lock_end` meets its contract. Assumes nothing.
 use borrow.Author.Needs.{needs}
+use Rattle.reader.proofs.statements.Laws.{no-lock, locks-it}
 use Rattle.reader.proofs.statements.lock_end.Statement.{statement}
 use Rattle.reader.proofs.statements.lock_end.Tie as tie
-use Rattle.reader.proofs.statements.lock_end.Reads as reads
-use Rattle.reader.proofs.statements.lock_end.Lts as lts
-use Rattle.reader.proofs.fields.byte_at.Reads as byte-at-reads
 
--- src/statements.rt:92:9
 byte-at-requires : tie.Need-byte-at-requires
 byte-at-requires c κs = search needs
 
--- src/statements.rt:94:9
 returns : tie.Need-returns
 returns c = no-lock _ _ _ _ _ _ (c .before .before .byte-at .ensures .0) (c .if1 .taken)
 
--- src/statements.rt:89:1
 returns-2 : tie.Need-returns-2
 returns-2 c = locks-it _ _ _ _ _ _ (c .before .before .byte-at .ensures .0) (c .if1 .left)
 

@@ -1,32 +1,24 @@
-use Rattle.reader.proofs.StatementLaws.{no-register, no-variable, transfers}
+-- `reader::statements::transfer_end` meets its contract. Assumes nothing.
 use borrow.Author.Needs.{needs}
+use Rattle.reader.proofs.statements.Laws.{no-register, no-variable, transfers}
 use Rattle.reader.proofs.statements.transfer_end.Statement.{statement}
 use Rattle.reader.proofs.statements.transfer_end.Tie as tie
-use Rattle.reader.proofs.statements.transfer_end.Reads as reads
-use Rattle.reader.proofs.statements.transfer_end.Lts as lts
-use Rattle.reader.proofs.fields.byte_at.Reads as byte-at-reads
 
--- src/statements.rt:77:9
 byte-at-requires : tie.Need-byte-at-requires
 byte-at-requires c κs = search needs
 
--- src/statements.rt:78:24
 add-byte-at : tie.Need-add-byte-at
 add-byte-at c = search needs
 
--- src/statements.rt:78:9
 byte-at-requires-2 : tie.Need-byte-at-requires-2
 byte-at-requires-2 c κs = search needs
 
--- src/statements.rt:80:9
 returns : tie.Need-returns
 returns c = no-register _ _ _ _ _ _ (c .before .before .before .byte-at .ensures .0) (c .if1 .taken)
 
--- src/statements.rt:83:9
 returns-2 : tie.Need-returns-2
 returns-2 c = no-variable _ _ _ _ _ _ (c .before .before .before .before .byte-at2 .ensures .0) (c .if2 .taken)
 
--- src/statements.rt:73:1
 returns-3 : tie.Need-returns-3
 returns-3 c = transfers _ _ _ _ _ _ _ (c .before .before .before .before .before .byte-at .ensures .0) (c .before .before .before .before .byte-at2 .ensures .0) (c .before .before .if1 .left) (c .if2 .left)
 

@@ -1,31 +1,23 @@
+-- `reader::threads::entry_at` meets its contract. Assumes nothing.
 use borrow.Author.Needs.{needs}
 use Rattle.reader.proofs.threads.entry_at.Statement.{statement}
 use Rattle.reader.proofs.threads.entry_at.Tie as tie
-use Rattle.reader.proofs.threads.entry_at.Reads as reads
-use Rattle.reader.proofs.threads.entry_at.Lts as lts
-use Rattle.reader.proofs.fields.byte_at.Reads as byte-at-reads
 
--- src/threads.rt:80:32
 add-byte-at : tie.Need-add-byte-at
 add-byte-at c = search needs
 
--- src/threads.rt:80:9
 byte-at-requires : tie.Need-byte-at-requires
 byte-at-requires c κs = search needs
 
--- src/threads.rt:82:16
 cast-t6 : tie.Need-cast-t6
 cast-t6 c = search needs
 
--- src/threads.rt:83:20
 cast-t7 : tie.Need-cast-t7
 cast-t7 c = search needs
 
--- src/threads.rt:84:21
 cast-t8 : tie.Need-cast-t8
 cast-t8 c = search needs
 
--- src/threads.rt:76:1
 returns : tie.Need-returns
 returns c = let arg = c .before .before .args in
     λ i. record { place = arg .p; registers = c .byte-at .ensures .0 i; statements = arg .n }

@@ -1,115 +1,83 @@
-use Rattle.reader.proofs.FieldLaws.{open-room}
-use Rattle.reader.proofs.ThreadLaws.{begun, close-room, thread-unopened, thread-registers, thread-statements, thread-unclosed, thread-whole}
+-- `reader::threads::read_thread` meets its contract. Assumes nothing.
 use native.Mathlib.Omega.{arith}
 use borrow.Author.Needs.{needs}
+use Rattle.reader.proofs.fields.Laws.{open-room}
+use Rattle.reader.proofs.threads.Laws.{begun, close-room, thread-unopened, thread-registers, thread-statements, thread-unclosed, thread-whole}
 use Rattle.reader.proofs.threads.read_thread.Statement.{statement}
 use Rattle.reader.proofs.threads.read_thread.Tie as tie
-use Rattle.reader.proofs.threads.read_thread.Reads as reads
-use Rattle.reader.proofs.threads.read_thread.Lts as lts
-use Rattle.reader.proofs.fields.byte_at.Reads as byte-at-reads
-use Rattle.reader.proofs.fields.open_end.Reads as open-end-reads
-use Rattle.reader.proofs.ranges.registers_end.Reads as registers-end-reads
-use Rattle.reader.proofs.statements.close_end.Reads as close-end-reads
-use Rattle.reader.proofs.statements.read_statements.Reads as read-statements-reads
-use Rattle.reader.proofs.threads.failed.Reads as failed-reads
 
--- src/threads.rt:50:9
 open-end-requires : tie.Need-open-end-requires
 open-end-requires c κs = search needs
 
--- src/threads.rt:51:17
 enum-known-x : tie.Need-enum-known-x
 enum-known-x c = search needs
 
--- src/threads.rt:52:9
 enum-told : tie.Need-enum-told
 enum-told c = search needs
 
--- src/threads.rt:52:9
 failed-requires : tie.Need-failed-requires
 failed-requires c κs = search needs
 
--- src/threads.rt:52:9
 returns : tie.Need-returns
 returns c = thread-unopened _ _ _ _ (c .before .before .before .open-end .ensures) _ _ _ _ (c .before .enum-told .given .1) (c .failed .ensures)
 
--- src/threads.rt:54:24
 add-byte-at : tie.Need-add-byte-at
 add-byte-at c = let h = open-room _ _ (c .before .before .before .open-end .ensures) (c .before .x .given .1) in let g = c .before .before .before .before .before .before .good in omega arith
 
--- src/threads.rt:54:9
 byte-at-requires : tie.Need-byte-at-requires
 byte-at-requires c κs = search needs
 
--- src/threads.rt:55:9
 registers-end-requires : tie.Need-registers-end-requires
 registers-end-requires c κs = search needs
 
--- src/threads.rt:56:17
 enum-known-y : tie.Need-enum-known-y
 enum-known-y c = search needs
 
--- src/threads.rt:57:9
 enum-told-2 : tie.Need-enum-told-2
 enum-told-2 c = search needs
 
--- src/threads.rt:57:9
 failed-requires-2 : tie.Need-failed-requires-2
 failed-requires-2 c κs = search needs
 
--- src/threads.rt:57:9
 returns-2 : tie.Need-returns-2
 returns-2 c = thread-registers _ _ _ _ (c .before .before .before .before .before .before .before .before .open-end .ensures) (c .before .before .before .before .before .before .x .given .1) _ (c .before .before .before .before .byte-at .ensures .0) (c .before .before .before .registers-end .ensures) _ _ _ _ (c .before .enum-told2 .given .1) (c .failed2 .ensures)
 
--- src/threads.rt:64:9
 read-statements-requires : tie.Need-read-statements-requires
 read-statements-requires c κs = search needs
 
--- src/threads.rt:65:22
 enum-known-k : tie.Need-enum-known-k
 enum-known-k c = search needs
 
--- src/threads.rt:66:9
 enum-told-3 : tie.Need-enum-told-3
 enum-told-3 c = search needs
 
--- src/threads.rt:66:9
 same-length : tie.Need-same-length
 same-length c = search needs
 
--- src/threads.rt:66:9
 returns-3 : tie.Need-returns-3
 returns-3 c = thread-statements _ _ _ _ (begun _ _ _ _ (c .before .before .before .before .before .before .before .before .before .before .before .before .before .before .open-end .ensures) (c .before .before .before .before .before .before .before .before .before .before .before .before .x .given .1) _ (c .before .before .before .before .before .before .before .before .before .before .byte-at .ensures .0) (c .before .before .before .before .before .before .before .before .before .registers-end .ensures) (c .before .before .before .before .before .before .before .y .given .1)) _ _ _ (c .before .before .before .before .read-statements .ensures) _ (c .enum-told3 .given .1)
 
--- src/threads.rt:68:9
 close-end-requires : tie.Need-close-end-requires
 close-end-requires c κs = close-room _ _ _ _ (c .before .before .before .before .before .before .read-statements .ensures) (c .before .before .k .given .1) (c .before .before .before .before .before .before .before .before .before .before .before .before .before .before .before .before .before .before .before .pre .0)
 
--- src/threads.rt:69:17
 enum-known-z : tie.Need-enum-known-z
 enum-known-z c = search needs
 
--- src/threads.rt:70:9
 enum-told-4 : tie.Need-enum-told-4
 enum-told-4 c = search needs
 
--- src/threads.rt:70:9
 failed-requires-3 : tie.Need-failed-requires-3
 failed-requires-3 c κs = search needs
 
--- src/threads.rt:70:9
 same-length-2 : tie.Need-same-length-2
 same-length-2 c = search needs
 
--- src/threads.rt:70:9
 returns-4 : tie.Need-returns-4
 returns-4 c = thread-unclosed _ _ _ _ (begun _ _ _ _ (c .before .before .before .before .before .before .before .before .before .before .before .before .before .before .before .before .before .before .before .before .open-end .ensures) (c .before .before .before .before .before .before .before .before .before .before .before .before .before .before .before .before .before .before .x .given .1) _ (c .before .before .before .before .before .before .before .before .before .before .before .before .before .before .before .before .byte-at .ensures .0) (c .before .before .before .before .before .before .before .before .before .before .before .before .before .before .before .registers-end .ensures) (c .before .before .before .before .before .before .before .before .before .before .before .before .before .y .given .1)) _ _ _ (c .before .before .before .before .before .before .before .before .before .before .read-statements .ensures) (c .before .before .before .before .before .before .k .given .1) (c .before .before .before .before .before .before .before .before .before .before .before .before .before .before .before .before .before .before .before .before .before .before .before .pre .0) (c .before .before .before .close-end .ensures) _ (c .before .enum-told4 .given .1) (c .failed3 .ensures)
 
--- src/threads.rt:46:1
 same-length-3 : tie.Need-same-length-3
 same-length-3 c = search needs
 
--- src/threads.rt:46:1
 returns-5 : tie.Need-returns-5
 returns-5 c = thread-whole _ _ _ _ (begun _ _ _ _ (c .before .before .before .before .before .before .before .before .before .before .before .before .before .before .before .before .before .before .before .before .open-end .ensures) (c .before .before .before .before .before .before .before .before .before .before .before .before .before .before .before .before .before .before .x .given .1) _ (c .before .before .before .before .before .before .before .before .before .before .before .before .before .before .before .before .byte-at .ensures .0) (c .before .before .before .before .before .before .before .before .before .before .before .before .before .before .before .registers-end .ensures) (c .before .before .before .before .before .before .before .before .before .before .before .before .before .y .given .1)) _ _ _ (c .before .before .before .before .before .before .before .before .before .before .read-statements .ensures) (c .before .before .before .before .before .before .k .given .1) (c .before .before .before .before .before .before .before .before .before .before .before .before .before .before .before .before .before .before .before .before .before .before .before .pre .0) (c .before .before .before .close-end .ensures) (c .before .z .given .1)
 

@@ -1,15 +1,12 @@
-use borrow.Author.Needs.{needs}
-use Rattle.reader.proofs.TableLaws.{ThreadsSoFar, threads-start, places-length, entries-length, threads-done, threads-full, threads-failed, entry-room, threads-more}
-use native.Mathlib.Omega.{arith}
-use Prim.Native.Nat.{_-_}
+-- `reader::threads::read_threads` meets its contract. Assumes nothing.
 use mathlib.Core.Path.{_∙_}
+use Prim.Native.Nat.{_-_}
+use native.Mathlib.Omega.{arith}
+use borrow.Author.Needs.{needs}
 use Rattle.rules.specs.Constants.{mostThreads}
+use Rattle.reader.proofs.threads.Tables.{ThreadsSoFar, threads-start, places-length, entries-length, threads-done, threads-full, threads-failed, entry-room, threads-more}
 use Rattle.reader.proofs.threads.read_threads.Statement.{statement}
 use Rattle.reader.proofs.threads.read_threads.Tie as tie
-use Rattle.reader.proofs.threads.read_threads.Reads as reads
-use Rattle.reader.proofs.threads.read_threads.Lts as lts
-use Rattle.reader.proofs.threads.entry_at.Reads as entry-at-reads
-use Rattle.reader.proofs.threads.read_thread.Reads as read-thread-reads
 
 abbrev Inv-loop : tie.InvT-loop
 Inv-loop s vars locks at places₀ entries₀ t₀ p₀ places entries t p = ThreadsSoFar vars locks s at places₀ places entries t p
@@ -17,71 +14,54 @@ Inv-loop s vars locks at places₀ entries₀ t₀ p₀ places entries t p = Thr
 abbrev μ-loop : tie.MeasureT-loop
 μ-loop s vars locks at places₀ entries₀ t₀ p₀ places entries t p = mostThreads - t
 
--- src/threads.rt:101:5
 loop-holds : tie.Need-loop-holds Inv-loop μ-loop
 loop-holds c = threads-start _ _ _ _ _
 
--- src/threads.rt:104:13
 same-length : tie.Need-same-length Inv-loop μ-loop
 same-length c = places-length (c .before .loop .inv)
 
--- src/threads.rt:104:13
 returns : tie.Need-returns Inv-loop μ-loop
 returns c = threads-done (c .before .loop .inv) (c .if1 .taken)
 
--- src/threads.rt:108:13
 same-length-2 : tie.Need-same-length-2 Inv-loop μ-loop
 same-length-2 c = places-length (c .before .before .loop .inv)
 
--- src/threads.rt:108:13
 returns-2 : tie.Need-returns-2 Inv-loop μ-loop
 returns-2 c = threads-full (c .before .before .loop .inv) (c .before .if1 .left) (c .if2 .taken)
 
--- src/threads.rt:110:56
 mul-read-thread : tie.Need-mul-read-thread Inv-loop μ-loop
 mul-read-thread c = let a = c .before .before .before .loop .inv .turn .top in let b = c .before .if2 .left in let d = c .before .before .before .before .before .before .pre in let e = places-length (c .before .before .before .loop .inv) in let g = entries-length (c .before .before .before .loop .inv) in omega arith
 
--- src/threads.rt:110:13
 read-thread-requires : tie.Need-read-thread-requires Inv-loop μ-loop
 read-thread-requires c κs = let a = c .before .before .before .loop .inv .turn .top in let b = c .before .if2 .left in let d = c .before .before .before .before .before .before .pre in let e = places-length (c .before .before .before .loop .inv) in let g = entries-length (c .before .before .before .loop .inv) in (omega arith, d .1)
 
--- src/threads.rt:113:42
 enum-told : tie.Need-enum-told Inv-loop μ-loop
 enum-told c = search needs
 
--- src/threads.rt:113:17
 same-length-3 : tie.Need-same-length-3 Inv-loop μ-loop
 same-length-3 c = c .before .before .before .before .read-thread .kept .1 .1 .1 .1 .0 ∙ places-length (c .before .before .before .before .before .before .before .before .loop .inv)
 
--- src/threads.rt:113:17
 returns-3 : tie.Need-returns-3 Inv-loop μ-loop
 returns-3 c = threads-failed (c .before .before .before .before .before .before .before .before .loop .inv) (c .before .before .before .before .before .before .before .if1 .left) (c .before .before .before .before .before .before .if2 .left) _ (c .before .before .before .before .read-thread .ensures) _ (c .enum-told .given .1)
 
--- src/threads.rt:115:26
 enum-known-x : tie.Need-enum-known-x Inv-loop μ-loop
 enum-known-x c = search needs
 
--- src/threads.rt:116:30
 entry-at-requires : tie.Need-entry-at-requires Inv-loop μ-loop
 entry-at-requires c κs = let h = entry-room (c .before .before .before .before .before .before .before .before .before .loop .inv) (c .before .before .before .before .before .before .before .before .if1 .left) (c .before .before .before .before .before .before .before .if2 .left) _ (c .before .before .before .before .before .read-thread .ensures) (c .before .x .given .1) in let d = c .before .before .before .before .before .before .before .before .before .before .before .before .pre .1 in let r = h .0 in (omega arith, h .1)
 
--- src/threads.rt:116:17
 mul-entries : tie.Need-mul-entries Inv-loop μ-loop
 mul-entries c = let a = c .before .before .before .before .before .before .before .before .before .before .loop .inv .turn .top in let b = c .before .before .before .before .before .before .before .before .if2 .left in let d = c .before .before .before .before .before .before .before .before .before .before .before .before .before .pre in let e = places-length (c .before .before .before .before .before .before .before .before .before .before .loop .inv) in let g = entries-length (c .before .before .before .before .before .before .before .before .before .before .loop .inv) in omega arith
 
--- src/threads.rt:116:17
 array-set-from-entries : tie.Need-array-set-from-entries Inv-loop μ-loop
 array-set-from-entries c = let a = c .before .before .before .before .before .before .before .before .before .before .loop .inv .turn .top in let b = c .before .before .before .before .before .before .before .before .if2 .left in let d = c .before .before .before .before .before .before .before .before .before .before .before .before .before .pre in let e = places-length (c .before .before .before .before .before .before .before .before .before .before .loop .inv) in let g = entries-length (c .before .before .before .before .before .before .before .before .before .before .loop .inv) in omega arith
 
--- src/threads.rt:118:17
 add-t : tie.Need-add-t Inv-loop μ-loop
 add-t c = let a = c .before .before .before .before .before .before .before .before .before .before .loop .inv .turn .top in let b = c .before .before .before .before .before .before .before .before .if2 .left in let d = c .before .before .before .before .before .before .before .before .before .before .before .before .before .pre in let e = places-length (c .before .before .before .before .before .before .before .before .before .before .loop .inv) in let g = entries-length (c .before .before .before .before .before .before .before .before .before .before .loop .inv) in omega arith
 
--- src/threads.rt:101:5
 loop-less : tie.Need-loop-less Inv-loop μ-loop
 loop-less c = let a = c .before .before .before .before .before .before .before .before .before .before .loop .inv .turn .top in let b = c .before .before .before .before .before .before .before .before .if2 .left in let d = c .before .before .before .before .before .before .before .before .before .before .before .before .before .pre in let e = places-length (c .before .before .before .before .before .before .before .before .before .before .loop .inv) in let g = entries-length (c .before .before .before .before .before .before .before .before .before .before .loop .inv) in omega arith
 
--- src/threads.rt:101:5
 loop-again : tie.Need-loop-again Inv-loop μ-loop
 loop-again c = threads-more (c .before .before .before .before .before .before .before .before .before .before .loop .inv) (c .before .before .before .before .before .before .before .before .before .if1 .left) (c .before .before .before .before .before .before .before .before .if2 .left) _ (c .before .before .before .before .before .before .read-thread .ensures) (c .before .before .x .given .1) _ (c .entry-at .ensures)
 

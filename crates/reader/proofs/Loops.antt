@@ -17,7 +17,7 @@ use Rattle.reader.specs.declared.outcome.End.the-variants.{At, Refused}
 use Rattle.reader.specs.declared.outcome.Next.{Next}
 use Rattle.reader.specs.declared.outcome.Next.the-variants.{Wrong, More, Done}
 use Rattle.reader.specs.Outcome.{endOf, nextOf}
-use Rattle.reader.proofs.OutcomeLaws.{got-of, bad-of, next-wrong, next-more, next-done}
+use Rattle.reader.proofs.outcome.Laws.{got-of, bad-of, next-wrong, next-more, next-done}
 
 -- ---- one turn of `readMany`
 

@@ -14,7 +14,7 @@ use Rattle.refusal.specs.declared.Refusal.the-variants.{Short, OutOfTurn, BadLe
 use Rattle.reader.specs.declared.outcome.End.{End}
 use Rattle.reader.specs.declared.outcome.End.the-variants.{At, Refused}
 use Rattle.reader.specs.Outcome.{endOf}
-use Rattle.reader.proofs.OutcomeLaws.{need-yes, need-no, apart}
+use Rattle.reader.proofs.outcome.Laws.{need-yes, need-no, apart}
 
 -- ---- a byte past the end is 0
 

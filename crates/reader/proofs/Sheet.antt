@@ -25,8 +25,8 @@ use Rattle.reader.specs.declared.threads.Threads.{Threads}
 use Rattle.reader.specs.declared.Index.{Index}
 use Rattle.reader.specs.Outcome.{endOf, countOf}
 use Rattle.reader.specs.Index.{layPlaces, noPlaces, entriesOf, ThreadsRead, refusedIndex, indexWith, indexOf}
-use Rattle.reader.proofs.OutcomeLaws.{got-of, bad-of, count-failed, count-found, same-rule}
-use Rattle.reader.proofs.ThreadLaws.{head-there}
+use Rattle.reader.proofs.outcome.Laws.{got-of, bad-of, count-failed, count-found, same-rule}
+use Rattle.reader.proofs.threads.Laws.{head-there}
 
 -- ---- what the code's answer on the threads says
 

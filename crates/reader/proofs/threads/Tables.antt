@@ -22,9 +22,9 @@ use Rattle.reader.specs.declared.threads.ThreadEntry.{ThreadEntry}
 use Rattle.reader.specs.declared.threads.Threads.{Threads}
 use Rattle.reader.specs.Outcome.{nextOf}
 use Rattle.reader.specs.Index.{placesOf, layPlaces, entryWith, noEntry, entryOf, entriesOf, ThreadRead, ThreadsRead}
-use Rattle.reader.proofs.OutcomeLaws.{refusal-of-rule, same-rule}
-use Rattle.reader.proofs.LoopLaws.{Turn, turn-done, turn-full, turn-ill, turn-well, turn-items, table-more}
-use Rattle.reader.proofs.ThreadLaws.{Opened, opened}
+use Rattle.reader.proofs.outcome.Laws.{refusal-of-rule, same-rule}
+use Rattle.reader.proofs.Loops.{Turn, turn-done, turn-full, turn-ill, turn-well, turn-items, table-more}
+use Rattle.reader.proofs.threads.Laws.{Opened, opened}
 
 -- ---- what the code's answer on a thread says
 

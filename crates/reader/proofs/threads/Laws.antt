@@ -22,10 +22,10 @@ use Rattle.reader.specs.declared.outcome.Count.{Count}
 use Rattle.reader.specs.declared.outcome.Count.the-variants.{Found, Failed}
 use Rattle.reader.specs.Outcome.{endOf, failure}
 use Rattle.reader.specs.Index.{targetsAt, lastAt, placesOf, StatementsRead, ThreadRead}
-use Rattle.reader.proofs.OutcomeLaws.{got-of, bad-of, refusal-of-rule, same-rule}
-use Rattle.reader.proofs.FieldLaws.{namesField}
-use Rattle.reader.proofs.LoopLaws.{map-length}
-use Rattle.reader.proofs.DecodeLaws.{CodeAt, codes-at, close-same, close-gives}
+use Rattle.reader.proofs.outcome.Laws.{got-of, bad-of, refusal-of-rule, same-rule}
+use Rattle.reader.proofs.fields.Laws.{namesField}
+use Rattle.reader.proofs.Loops.{map-length}
+use Rattle.reader.proofs.statements.Codes.{CodeAt, codes-at, close-same, close-gives}
 
 -- ---- what the code's answers on statements say
 

@@ -20,7 +20,7 @@ use Rattle.reader.specs.declared.outcome.End.the-variants.{At, Refused}
 use Rattle.reader.specs.declared.outcome.Next.{Next}
 use Rattle.reader.specs.declared.outcome.Next.the-variants.{Wrong, More, Done}
 use Rattle.reader.specs.Outcome.{endOf, nextOf, exactEnd}
-use Rattle.reader.proofs.OutcomeLaws.{need-yes, need-no, map-end, and-left-no, and-right-no, and-both}
+use Rattle.reader.proofs.outcome.Laws.{need-yes, need-no, map-end, and-left-no, and-right-no, and-both}
 
 -- ---- an expression that ends where the body ends
 
