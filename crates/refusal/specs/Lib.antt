@@ -1,0 +1,2 @@
+-- The code's refusals as those of the rules.
+pub mod Shape
