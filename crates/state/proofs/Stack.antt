@@ -1,0 +1,35 @@
+-- The stack of states that the buffer holds: storing is a push, and taking the top one changes no number.
+use mathlib.Core.Path.{_≡_, refl, ap, _∙_}
+use mathlib.Core.List.{List, _∷_}
+use Prim.Native.Nat.{ℕ, zero, suc, _+_, _*_, _-_, _<_, _≤_}
+use native.Mathlib.Omega.{arith}
+use native.Mathlib.Nat.{le-refl}
+use native.Mathlib.Numerals.{add-one}
+use lib.IntN.{ℤ}
+use lib.ListN.{length}
+use Rattle.rules.specs.Constants.{numbersPerState}
+use Rattle.state.specs.declared.State.{State}
+use Rattle.state.specs.Cells.{decode, stored, slotOf, Sound, stackOf}
+use Rattle.state.proofs.Round.{decode-encode, slot-same, slot-below}
+
+pub stack-length : (n : ℕ) (b : List ℤ) → length (stackOf n b) ≡ n
+unfolding stackOf
+stack-length zero b = refl
+stack-length (suc n) b = ap suc (stack-length n b)
+
+-- the slots below the one that is stored are as they were
+pub stack-below : (b : List ℤ) (k : ℕ) (s : State) → k * numbersPerState + numbersPerState ≤ length b → (n : ℕ) → n ≤ k → stackOf n (stored b k s) ≡ stackOf n b
+unfolding stackOf
+stack-below b k s room zero h = refl
+stack-below b k s room (suc n) h = λ i. decode (slot-below b k s room n h i) ∷ stack-below b k s room n (omega arith) i
+
+-- a store at the top is a push
+pub push : (b : List ℤ) (k : ℕ) (s : State) → k * numbersPerState + numbersPerState ≤ length b → Sound s → stackOf (k + 1) (stored b k s) ≡ s ∷ stackOf k b
+unfolding stackOf
+push b k s room w =
+    rw add-one (λ i. (ap decode (slot-same b k s room) ∙ decode-encode s w) i ∷ stack-below b k s room k (le-refl k) i)
+
+pub top : (b : List ℤ) (n : ℕ) → 0 < n → stackOf n b ≡ decode (slotOf b (n - 1)) ∷ stackOf (n - 1) b
+unfolding stackOf
+top b zero h = absurd (omega arith)
+top b (suc n) h = let e : suc n - 1 ≡ n = omega arith in rw e
