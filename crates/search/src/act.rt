@@ -12,6 +12,30 @@ use state::Clock;
 use state::State;
 use state::Thread;
 use state::Time;
+ghost use mathlib.Core.Path.{_≡_};
+ghost use mathlib.Core.Bool.{Bool, true, false};
+ghost use mathlib.Core.List.{List, [], _∷_, _++_};
+ghost use mathlib.Core.Option.{none};
+ghost use Prim.Native.Nat.{ℕ, suc, _+_, _≤_, _<_};
+ghost use lib.ListN.{length, getD, set};
+ghost use Rattle.rules.specs.Constants.{deepest, mostThreads, mostStatements, mostRegisters, mostVariables, mostLocks};
+ghost use Rattle.rules.specs.Refusal.{Result};
+ghost use Rattle.rules.specs.Program as P;
+ghost use Rattle.rules.specs.Program.{Statement};
+ghost use Rattle.rules.specs.Lock.{mayTake, afterUnlock, afterLock};
+ghost use Rattle.rules.specs.Format.{got, readArith, readCondition};
+ghost use Rattle.rules.specs.Search as S;
+ghost use Rattle.rules.specs.Search.{effect, unlessEmpty};
+ghost use Rattle.interval.specs.Shape.{intervalOf};
+ghost use Rattle.expression.specs.Evaluation.{regsOf};
+ghost use Rattle.expression.specs.Comparison.{unlessFlagged};
+ghost use Rattle.search.specs.declared.act.Acted.the-variants as Acted;
+ghost use Rattle.state.specs.Shape.{Sizes, ownerOf, threadOf, sizesOf, stateOf};
+ghost use Rattle.state.specs.Access.{threadAt, varAt, ownerAt, regAt, withThread};
+ghost use Rattle.search.specs.Plan.{programIn};
+ghost use Rattle.search.specs.Fetch.{namesOf, Fetches};
+ghost use Rattle.search.specs.Push.{Pushed};
+ghost use Rattle.search.specs.Act.{Ticks, Asks, OfProgram, Acts, standingAt, movedBy};
 
 // An event of thread t, which has n registers, between two ticks.
 pub struct Event {
@@ -27,7 +51,9 @@ pub enum Acted {
 }
 
 // The thread at a statement, its clock at the event's ticks, with these registers.
-fn standing(v: Event, at: u8, regs: [Span; 8]) -> Thread {
+fn standing(v: Event, at: u8, regs: [Span; 8]) -> Thread
+    ensures { λ r. ⌜ r ≡ standingAt v at regs ⌝ }
+{
     let from = v.from;
     let to = v.to;
     let clock = Clock { low: from, high: to };
@@ -39,7 +65,10 @@ fn standing(v: Event, at: u8, regs: [Span; 8]) -> Thread {
 }
 
 // The state in which the mover stands there.
-fn moved(s: State, v: Event, at: u8, regs: [Span; 8]) -> State {
+fn moved(s: State, v: Event, at: u8, regs: [Span; 8]) -> State
+    requires { ⌜ v .thread < mostThreads ⌝ }
+    ensures { λ r. ⌜ r ≡ withThread s (v .thread) (standingAt v at regs) ⌝ }
+{
     let x = standing(v, at, regs);
     let t = v.thread;
     let mut u = s;
@@ -48,17 +77,26 @@ fn moved(s: State, v: Event, at: u8, regs: [Span; 8]) -> State {
 }
 
 // The number of the next statement.
-fn next(at: u8) -> u8 {
+fn next(at: u8) -> u8
+    requires { ⌜ at < mostStatements ⌝ }
+    ensures { λ r. ⌜ r ≡ suc at ⌝ }
+{
     at + 1
 }
 
-fn skip(s: State, v: Event, x: Thread, work: &mut [i32], height: usize, slots: usize) -> usize {
+fn skip(s: State, v: Event, x: Thread, work: &mut [i32], height: usize, slots: usize) -> usize
+    requires { ⌜ Asks s v (now work) height slots × (x .at < mostStatements) ⌝ }
+    ensures { λ r. ⌜ ((z : Sizes) → Pushed z slots (now (work .entry)) (now (work .exit)) height r (movedBy z s v (suc (x .at)) (regsOf (getD (z .regs) (v .thread) 0) (x .regs)) ∷ [])) ⌝ }
+{
     let regs = x.regs;
     let at = next(x.at);
     push(work, height, slots, moved(s, v, at, regs))
 }
 
-fn set_register(x: Thread, r: usize, i: Span) -> [Span; 8] {
+fn set_register(x: Thread, r: usize, i: Span) -> [Span; 8]
+    requires { ⌜ r < mostRegisters ⌝ }
+    ensures { λ l. ⌜ l ≡ set (x .regs) r i ⌝ }
+{
     let mut regs = x.regs;
     regs[r] = i;
     regs
@@ -73,7 +111,11 @@ fn write_register(
     work: &mut [i32],
     height: usize,
     slots: usize,
-) -> usize {
+) -> usize
+    requires { ⌜ Asks s v (now work) height slots × ((x .at < mostStatements) × (r < mostRegisters)) ⌝ }
+    ensures { λ k. ⌜ ((z : Sizes) → Pushed z slots (now (work .entry)) (now (work .exit)) height k
+        (movedBy z s v (suc (x .at)) (set (regsOf (getD (z .regs) (v .thread) 0) (x .regs)) r (intervalOf i)) ∷ [])) ⌝ }
+{
     let regs = set_register(x, r, i);
     let at = next(x.at);
     push(work, height, slots, moved(s, v, at, regs))
@@ -90,7 +132,13 @@ fn assign(
     work: &mut [i32],
     height: usize,
     slots: usize,
-) -> Acted {
+) -> Acted
+    requires { ⌜ Asks s v (now work) height slots × ((x .at < mostStatements) × ((r < mostRegisters) × ((v .registers ≤ mostRegisters) × (end ≤ length (now sheet))))) ⌝ }
+    ensures { λ k. ⌜ ((z : Sizes) (a : P.Arith) → getD (z .regs) (v .thread) 0 ≡ v .registers
+        → readArith deepest (now (sheet .entry)) end (v .registers) at ≡ got a end
+        → Acts z slots (now (work .entry)) (now (work .exit)) height k
+        (effect (stateOf z s) (v .thread) (threadOf (v .registers) x) (v .from .0) (v .to .0) (P.assign r a))) ⌝ }
+{
     let regs = x.regs;
     let n = v.registers;
     match assigned_value(sheet, at, end, n, regs) {
@@ -112,7 +160,11 @@ fn way(
     work: &mut [i32],
     height: usize,
     slots: usize,
-) -> usize {
+) -> usize
+    requires { ⌜ Asks s v (now work) height slots ⌝ }
+    ensures { λ k. ⌜ ((z : Sizes) → Pushed z slots (now (work .entry)) (now (work .exit)) height k
+        (unlessEmpty (λ rs. movedBy z s v at rs) (unlessFlagged empty (regsOf (getD (z .regs) (v .thread) 0) regs)))) ⌝ }
+{
     if empty {
         return height;
     }
@@ -131,7 +183,13 @@ fn branch(
     work: &mut [i32],
     height: usize,
     slots: usize,
-) -> Acted {
+) -> Acted
+    requires { ⌜ Asks s v (now work) height slots × ((x .at < mostStatements) × ((target < mostStatements) × ((v .registers ≤ mostRegisters) × (end ≤ length (now sheet))))) ⌝ }
+    ensures { λ k. ⌜ ((z : Sizes) (a : P.Condition) → getD (z .regs) (v .thread) 0 ≡ v .registers
+        → readCondition deepest (now (sheet .entry)) end (v .registers) at ≡ got a end
+        → Acts z slots (now (work .entry)) (now (work .exit)) height k
+        (effect (stateOf z s) (v .thread) (threadOf (v .registers) x) (v .from .0) (v .to .0) (P.branch target a))) ⌝ }
+{
     let regs = x.regs;
     let n = v.registers;
     let b = branch_on(sheet, at, end, n, regs);
@@ -161,7 +219,12 @@ fn store(
     work: &mut [i32],
     height: usize,
     slots: usize,
-) -> usize {
+) -> usize
+    requires { ⌜ Asks s v (now work) height slots × ((x .at < mostStatements) × ((r < mostRegisters) × (k < mostVariables))) ⌝ }
+    ensures { λ h. ⌜ ((z : Sizes) → r < getD (z .regs) (v .thread) 0
+        → Acts z slots (now (work .entry)) (now (work .exit)) height (Acted.Height h)
+        (effect (stateOf z s) (v .thread) (threadOf (getD (z .regs) (v .thread) 0) x) (v .from .0) (v .to .0) (P.store r k))) ⌝ }
+{
     let regs = x.regs;
     let i = regs[r];
     let at = next(x.at);
@@ -179,32 +242,51 @@ fn load(
     work: &mut [i32],
     height: usize,
     slots: usize,
-) -> usize {
+) -> usize
+    requires { ⌜ Asks s v (now work) height slots × ((x .at < mostStatements) × ((r < mostRegisters) × (k < mostVariables))) ⌝ }
+    ensures { λ h. ⌜ ((z : Sizes) → k < z .vars
+        → Acts z slots (now (work .entry)) (now (work .exit)) height (Acted.Height h)
+        (effect (stateOf z s) (v .thread) (threadOf (getD (z .regs) (v .thread) 0) x) (v .from .0) (v .to .0) (P.load r k))) ⌝ }
+{
     let i = s.vars[k];
     write_register(s, v, x, r, i, work, height, slots)
 }
 
 // How a lock's cell names thread t.
-fn owner(t: usize) -> u8 {
+fn owner(t: usize) -> u8
+    requires { ⌜ t < mostThreads ⌝ }
+    ensures { λ r. ⌜ r ≡ suc t ⌝ }
+{
     (t + 1) as u8
 }
 
 // A lock is free, or the thread owns it already.
-pub fn may_take(t: usize, o: u8) -> bool {
+pub fn may_take(t: usize, o: u8) -> bool
+    requires { ⌜ t < mostThreads ⌝ }
+    ensures { λ r. ⌜ r ≡ mayTake t (ownerOf o) ⌝ }
+{
     if o == 0 {
         return true;
     }
     o == owner(t)
 }
 
-fn after_unlock(t: usize, o: u8) -> u8 {
+fn after_unlock(t: usize, o: u8) -> u8
+    requires { ⌜ t < mostThreads ⌝ }
+    ensures { λ r. ⌜ ownerOf r ≡ afterUnlock t (ownerOf o) ⌝ }
+{
     if o == owner(t) {
         return 0;
     }
     o
 }
 
-fn unlock(s: State, v: Event, x: Thread, l: usize, work: &mut [i32], height: usize, slots: usize) -> usize {
+fn unlock(s: State, v: Event, x: Thread, l: usize, work: &mut [i32], height: usize, slots: usize) -> usize
+    requires { ⌜ Asks s v (now work) height slots × ((x .at < mostStatements) × (l < mostLocks)) ⌝ }
+    ensures { λ h. ⌜ ((z : Sizes) → l < z .locks
+        → Acts z slots (now (work .entry)) (now (work .exit)) height (Acted.Height h)
+        (effect (stateOf z s) (v .thread) (threadOf (getD (z .regs) (v .thread) 0) x) (v .from .0) (v .to .0) (P.unlock l))) ⌝ }
+{
     let t = v.thread;
     let o = s.owners[l];
     let p = after_unlock(t, o);
@@ -215,7 +297,12 @@ fn unlock(s: State, v: Event, x: Thread, l: usize, work: &mut [i32], height: usi
     push(work, height, slots, u)
 }
 
-fn lock(s: State, v: Event, x: Thread, l: usize, work: &mut [i32], height: usize, slots: usize) -> usize {
+fn lock(s: State, v: Event, x: Thread, l: usize, work: &mut [i32], height: usize, slots: usize) -> usize
+    requires { ⌜ Asks s v (now work) height slots × ((x .at < mostStatements) × (l < mostLocks)) ⌝ }
+    ensures { λ h. ⌜ ((z : Sizes) → l < z .locks
+        → Acts z slots (now (work .entry)) (now (work .exit)) height (Acted.Height h)
+        (effect (stateOf z s) (v .thread) (threadOf (getD (z .regs) (v .thread) 0) x) (v .from .0) (v .to .0) (P.lock l))) ⌝ }
+{
     let t = v.thread;
     let o = s.owners[l];
     let regs = x.regs;
@@ -238,7 +325,13 @@ pub fn act(
     work: &mut [i32],
     height: usize,
     slots: usize,
-) -> Acted {
+) -> Acted
+    requires { ⌜ Asks s v (now work) height slots × (OfProgram (programIn (now sheet)) v
+        × ((x : Statement) × Fetches (now sheet) (namesOf (programIn (now sheet)) (v .thread)) (threadAt s (v .thread) .at) x f)) ⌝ }
+    ensures { λ k. ⌜ ((x : Statement) → Fetches (now (sheet .entry)) (namesOf (programIn (now (sheet .entry))) (v .thread)) (threadAt s (v .thread) .at) x f
+        → Acts (sizesOf (programIn (now (sheet .entry)))) slots (now (work .entry)) (now (work .exit)) height k
+        (effect (stateOf (sizesOf (programIn (now (sheet .entry)))) s) (v .thread) (threadOf (v .registers) (threadAt s (v .thread))) (v .from .0) (v .to .0) (x .action))) ⌝ }
+{
     let t = v.thread;
     let x = s.threads[t];
     let action = f.action;

@@ -2,6 +2,16 @@
 use crate::plan::Plan;
 use reader::decoding::Action;
 use reader::decoding::statement_at;
+ghost use mathlib.Core.Path.{_≡_};
+ghost use mathlib.Core.Bool.{false};
+ghost use Prim.Native.Nat.{ℕ, _+_, _≤_, _<_};
+ghost use lib.ListN.{length};
+ghost use Rattle.rules.specs.Constants.{mostStatements};
+ghost use Rattle.rules.specs.Program.{Statement, noStatement};
+ghost use Rattle.rules.specs.Format.{Bytes, Names};
+ghost use Rattle.reader.specs.Facts.{statementIn, StatementFacts, Targets};
+ghost use Rattle.search.specs.Plan.{programIn, Ready};
+ghost use Rattle.search.specs.Fetch.{halts, namesOf, Fetches};
 
 pub struct Fetched {
     pub place: usize,
@@ -11,7 +21,9 @@ pub struct Fetched {
 }
 
 // Where the number names no statement, there is none to end: it is a halt.
-fn none() -> Fetched {
+fn none() -> Fetched
+    ensures { λ r. ⌜ ((s : Bytes) (ns : Names) (at : ℕ) → Fetches s ns at noStatement r) ⌝ }
+{
     let halt = Action::Halt;
     Fetched {
         place: 0,
@@ -21,7 +33,11 @@ fn none() -> Fetched {
     }
 }
 
-fn fetch_at(sheet: &[u8], place: usize) -> Fetched {
+fn fetch_at(sheet: &[u8], place: usize) -> Fetched
+    requires { ⌜ place + 8 ≤ length (now sheet) ⌝ }
+    ensures { λ r. ⌜ ((ns : Names) (at : ℕ) (x : Statement) → place ≡ x .place → at < mostStatements → StatementFacts ns (now (sheet .entry)) x
+        → Targets mostStatements (x .action) → Fetches (now (sheet .entry)) ns at x r) ⌝ }
+{
     let x = statement_at(sheet, place);
     let action = x.action;
     Fetched {
@@ -33,7 +49,10 @@ fn fetch_at(sheet: &[u8], place: usize) -> Fetched {
 }
 
 // Statement `at` of thread t.
-pub fn fetch(sheet: &[u8], places: &[u16; 256], plan: Plan, t: usize, at: u8) -> Fetched {
+pub fn fetch(sheet: &[u8], places: &[u16; 256], plan: Plan, t: usize, at: u8) -> Fetched
+    requires { ⌜ Ready (now sheet) plan (now places) × (t < length (programIn (now sheet) .threads)) ⌝ }
+    ensures { λ r. ⌜ Fetches (now (sheet .entry)) (namesOf (programIn (now (sheet .entry))) t) at (statementIn (programIn (now (sheet .entry))) t at) r ⌝ }
+{
     let entry = plan.entries[t];
     let k = at as usize;
     let count = entry.statements as usize;
@@ -45,7 +64,9 @@ pub fn fetch(sheet: &[u8], places: &[u16; 256], plan: Plan, t: usize, at: u8) ->
     fetch_at(sheet, place)
 }
 
-pub fn is_halt(action: Action) -> bool {
+pub fn is_halt(action: Action) -> bool
+    ensures { λ r. ⌜ r ≡ halts action ⌝ }
+{
     match action {
         Action::Halt => true,
         _ => false,

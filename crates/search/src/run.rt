@@ -8,6 +8,19 @@ use refusal::Refusal;
 use state::State;
 use state::cells::load;
 use state::cells::store;
+ghost use mathlib.Core.Path.{_≡_};
+ghost use mathlib.Core.Bool.{Bool, true, false, _&&_, not};
+ghost use mathlib.Core.List.{List, [], _∷_};
+ghost use Prim.Native.Nat.{ℕ, suc, _+_, _≤_, _<_, min, max};
+ghost use lib.ListN.{length, getD, drop};
+ghost use Rattle.rules.specs.Constants.{numbersPerState};
+ghost use Rattle.rules.specs.Search as S;
+ghost use Rattle.rules.specs.Search.{unseen};
+ghost use Rattle.state.specs.Shape.{sizesOf, stateOf};
+ghost use Rattle.state.specs.Cells.{AllTimed};
+ghost use Rattle.search.specs.Plan.{programIn, Ready};
+ghost use Rattle.search.specs.Push.{Room};
+ghost use Rattle.search.specs.Run.{windowOf, endOf};
 
 // The window found so far.
 pub struct Window {
@@ -16,7 +29,9 @@ pub struct Window {
     pub high: u32,
 }
 
-fn widen(w: Window, low: u32, high: u32) -> Window {
+fn widen(w: Window, low: u32, high: u32) -> Window
+    ensures { λ r. ⌜ windowOf r ≡ S.widen (windowOf w) low high ⌝ }
+{
     if w.seen {
         return Window {
             seen: true,
@@ -37,7 +52,11 @@ pub enum Outcome {
     Finds(u32, Window),
 }
 
-pub fn search(sheet: &[u8], places: &[u16; 256], plan: Plan, first: State, budget: u32, work: &mut [i32], slots: usize) -> Outcome {
+pub fn search(sheet: &[u8], places: &[u16; 256], plan: Plan, first: State, budget: u32, work: &mut [i32], slots: usize) -> Outcome
+    requires { ⌜ Ready (now sheet) plan (now places) × (AllTimed first × (Room slots (now work) × (1 ≤ slots))) ⌝ }
+    ensures { λ r. ⌜ endOf r ≡ S.search budget (programIn (now (sheet .entry))) slots (stateOf (sizesOf (programIn (now (sheet .entry)))) first ∷ []) unseen 0 ⌝ }
+    ensures { λ r. ⌜ length (now (work .exit)) ≡ length (now (work .entry)) ⌝ }
+{
     store(work, 0, first);
     let mut height: usize = 1;
     let mut steps: u32 = 0;

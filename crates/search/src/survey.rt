@@ -7,6 +7,23 @@ use crate::plan::Plan;
 use reader::decoding::Action;
 use state::State;
 use state::Thread;
+ghost use mathlib.Core.Path.{_≡_};
+ghost use mathlib.Core.Bool.{Bool, true, false, _&&_, not};
+ghost use mathlib.Core.List.{List, [], _∷_};
+ghost use Prim.Native.Nat.{ℕ, suc, _+_, _≤_, _<_, min, max};
+ghost use lib.ListN.{length, getD, drop};
+ghost use Rattle.rules.specs.Base.{if_then_else_};
+ghost use Rattle.rules.specs.Constants.{half32, mostThreads};
+ghost use Rattle.rules.specs.Lock.{Owner};
+ghost use Rattle.rules.specs.Program.{Program, Statement};
+ghost use Rattle.rules.specs.Search as S;
+ghost use Rattle.reader.specs.Facts.{statementIn};
+ghost use Rattle.state.specs.Shape.{ownersOf, threadOf, sizesOf, stateOf};
+ghost use Rattle.state.specs.Cells.{Timed, AllTimed};
+ghost use Rattle.search.specs.Plan.{programIn, Ready};
+ghost use Rattle.search.specs.Fetch.{namesOf, Fetches};
+ghost use Rattle.search.specs.Survey.{Surveys, LockThere, waitsAt, addLive, addClock, addThread};
+ghost use Rattle.search.specs.Turn.{liveAfter};
 
 // Whether some thread is live; whether every live one waits for a lock; the turn's bound, where some thread is live; the
 // greatest clock low and high.
@@ -18,16 +35,23 @@ pub struct Survey {
     pub high: u32,
 }
 
-pub fn greater(a: u32, b: u32) -> u32 {
+pub fn greater(a: u32, b: u32) -> u32
+    ensures { λ r. ⌜ r ≡ max a b ⌝ }
+{
     if a < b { b } else { a }
 }
 
-pub fn lesser(a: u32, b: u32) -> u32 {
+pub fn lesser(a: u32, b: u32) -> u32
+    ensures { λ r. ⌜ r ≡ min a b ⌝ }
+{
     if a < b { a } else { b }
 }
 
 // Thread t stands at a lock that another owns.
-fn waits(t: usize, action: Action, owners: [u8; 8]) -> bool {
+fn waits(t: usize, action: Action, owners: [u8; 8]) -> bool
+    requires { ⌜ (t < mostThreads) × LockThere action ⌝ }
+    ensures { λ r. ⌜ r ≡ waitsAt t action owners ⌝ }
+{
     match action {
         Action::Lock(l) => {
             let o = owners[l];
@@ -38,7 +62,9 @@ fn waits(t: usize, action: Action, owners: [u8; 8]) -> bool {
 }
 
 // One more live thread: its last tick, and whether it waits.
-fn with_live(a: Survey, due: u32, waits: bool) -> Survey {
+fn with_live(a: Survey, due: u32, waits: bool) -> Survey
+    ensures { λ r. ⌜ r ≡ addLive a due waits ⌝ }
+{
     let bound = if a.live { lesser(due, a.bound) } else { due };
     Survey {
         live: true,
@@ -49,7 +75,9 @@ fn with_live(a: Survey, due: u32, waits: bool) -> Survey {
     }
 }
 
-fn with_clock(a: Survey, low: u32, high: u32) -> Survey {
+fn with_clock(a: Survey, low: u32, high: u32) -> Survey
+    ensures { λ r. ⌜ r ≡ addClock a low high ⌝ }
+{
     Survey {
         live: a.live,
         waiting: a.waiting,
@@ -60,7 +88,10 @@ fn with_clock(a: Survey, low: u32, high: u32) -> Survey {
 }
 
 // One more thread.
-fn with_thread(a: Survey, t: usize, x: Thread, f: Fetched, owners: [u8; 8]) -> Survey {
+fn with_thread(a: Survey, t: usize, x: Thread, f: Fetched, owners: [u8; 8]) -> Survey
+    requires { ⌜ (t < mostThreads) × (Timed x × ((f .greatest < 65536) × LockThere (f .action))) ⌝ }
+    ensures { λ r. ⌜ r ≡ addThread a t x f owners ⌝ }
+{
     let low = x.clock.low.0;
     let high = x.clock.high.0;
     let b = with_clock(a, low, high);
@@ -73,7 +104,11 @@ fn with_thread(a: Survey, t: usize, x: Thread, f: Fetched, owners: [u8; 8]) -> S
     with_live(b, due, w)
 }
 
-pub fn survey(sheet: &[u8], places: &[u16; 256], plan: Plan, s: State) -> Survey {
+pub fn survey_threads(sheet: &[u8], places: &[u16; 256], plan: Plan, s: State) -> Survey
+    requires { ⌜ Ready (now sheet) plan (now places) × AllTimed s ⌝ }
+    ensures { λ r. ⌜ Surveys (stateOf (sizesOf (programIn (now (sheet .entry)))) s .owners) (liveAfter (programIn (now (sheet .entry))) (stateOf (sizesOf (programIn (now (sheet .entry)))) s) 0)
+        (stateOf (sizesOf (programIn (now (sheet .entry)))) s .threads) r ⌝ }
+{
     let owners = s.owners;
     let mut a = Survey {
         live: false,

@@ -6,10 +6,27 @@ use crate::fetch::fetch;
 use crate::fetch::is_halt;
 use crate::plan::Plan;
 use crate::survey::greater;
-use crate::survey::survey;
+use crate::survey::survey_threads;
 use refusal::Refusal;
 use state::State;
 use state::Time;
+ghost use mathlib.Core.Path.{_≡_};
+ghost use mathlib.Core.Bool.{Bool, true, false, _&&_, not};
+ghost use mathlib.Core.List.{List, [], _∷_};
+ghost use Prim.Native.Nat.{ℕ, suc, _+_, _≤_, _<_, min, max};
+ghost use lib.ListN.{length, getD, drop};
+ghost use lib.IntN.{ℤ};
+ghost use Rattle.rules.specs.Base.{if_then_else_};
+ghost use Rattle.rules.specs.Constants.{half32, mostThreads};
+ghost use Rattle.rules.specs.Program.{Program, Statement};
+ghost use Rattle.rules.specs.Search as S;
+ghost use Rattle.rules.specs.Search.{events, greatestLow};
+ghost use Rattle.reader.specs.Facts.{statementIn};
+ghost use Rattle.state.specs.Shape.{sizesOf, stateOf};
+ghost use Rattle.state.specs.Cells.{AllTimed};
+ghost use Rattle.search.specs.Plan.{programIn, Ready};
+ghost use Rattle.search.specs.Push.{Room};
+ghost use Rattle.search.specs.Turn.{liveAfter, Makes, heightOf, Turns};
 
 // What the events of the last threads made: the new height, or the fault of the first of them that has one.
 pub enum Made {
@@ -30,7 +47,13 @@ fn before(
     work: &mut [i32],
     height: usize,
     slots: usize,
-) -> Made {
+) -> Made
+    requires { ⌜ Ready (now sheet) plan (now places) × ((t < length (programIn (now sheet) .threads)) × (AllTimed s × ((bound < half32) × ((latest < half32) × (Room slots (now work) × (height ≤ slots + 1)))))) ⌝ }
+    ensures { λ r. ⌜ ((b : List ℤ) (h : ℕ) → height ≡ heightOf later h
+        → Makes (sizesOf (programIn (now (sheet .entry)))) slots b h (now (work .entry)) later (events (stateOf (sizesOf (programIn (now (sheet .entry)))) s) latest bound (liveAfter (programIn (now (sheet .entry))) (stateOf (sizesOf (programIn (now (sheet .entry)))) s) (suc t)))
+        → Makes (sizesOf (programIn (now (sheet .entry)))) slots b h (now (work .exit)) r (events (stateOf (sizesOf (programIn (now (sheet .entry)))) s) latest bound (liveAfter (programIn (now (sheet .entry))) (stateOf (sizesOf (programIn (now (sheet .entry)))) s) t))) ⌝ }
+    ensures { λ r. ⌜ length (now (work .exit)) ≡ length (now (work .entry)) ⌝ }
+{
     let x = s.threads[t];
     let f = fetch(sheet, places, plan, t, x.at);
     let action = f.action;
@@ -57,7 +80,9 @@ fn before(
     }
 }
 
-fn height_of(m: Made, other: usize) -> usize {
+fn height_of(m: Made, other: usize) -> usize
+    ensures { λ r. ⌜ r ≡ heightOf m other ⌝ }
+{
     match m {
         Made::Fault(_, _) => other,
         Made::Height(h) => h,
@@ -74,7 +99,11 @@ fn expand(
     work: &mut [i32],
     height: usize,
     slots: usize,
-) -> Made {
+) -> Made
+    requires { ⌜ Ready (now sheet) plan (now places) × (AllTimed s × ((bound < half32) × ((latest < half32) × (Room slots (now work) × (height ≤ slots))))) ⌝ }
+    ensures { λ r. ⌜ Makes (sizesOf (programIn (now (sheet .entry)))) slots (now (work .entry)) height (now (work .exit)) r
+        (events (stateOf (sizesOf (programIn (now (sheet .entry)))) s) latest bound (liveAfter (programIn (now (sheet .entry))) (stateOf (sizesOf (programIn (now (sheet .entry)))) s) 0)) ⌝ }
+{
     let mut made = Made::Height(height);
     let mut t = plan.threads;
     while 0 < t {
@@ -99,8 +128,12 @@ pub fn turn(
     work: &mut [i32],
     height: usize,
     slots: usize,
-) -> Turned {
-    let a = survey(sheet, places, plan, s);
+) -> Turned
+    requires { ⌜ Ready (now sheet) plan (now places) × (AllTimed s × (Room slots (now work) × (height ≤ slots))) ⌝ }
+    ensures { λ r. ⌜ Turns (sizesOf (programIn (now (sheet .entry)))) slots (now (work .entry)) height (now (work .exit)) r
+        (S.turn (programIn (now (sheet .entry))) (stateOf (sizesOf (programIn (now (sheet .entry)))) s)) ⌝ }
+{
+    let a = survey_threads(sheet, places, plan, s);
     if !a.live {
         return Turned::Ended(a.low, a.high);
     }

@@ -1,0 +1,58 @@
+-- What the event of one thread gives.
+use mathlib.Core.Path.{_≡_}
+use mathlib.Core.List.{List}
+use Prim.Native.Nat.{ℕ, _+_, _≤_, _<_}
+use lib.ListN.{length, getD}
+use lib.IntN.{ℤ}
+use Rattle.rules.specs.Constants.{half32, mostThreads, mostRegisters, mostVariables, mostLocks}
+use Rattle.rules.specs.Program.{Program}
+use Rattle.rules.specs.Search as S
+use Rattle.rules.specs.Search.{unread, states, moved}
+use Rattle.rules.specs.Expression.{Regs}
+use Rattle.interval.specs.declared.Span.{Span}
+use Rattle.refusal.specs.Shape.{refusalOf}
+use Rattle.reader.specs.Facts.{threadIn}
+use Rattle.state.specs.Shape.{Sizes, stateOf}
+use Rattle.state.specs.declared.State.{State}
+use Rattle.state.specs.declared.Thread.{Thread}
+use Rattle.state.specs.Access.{threadAt}
+use Rattle.state.specs.Cells.{AllTimed}
+use Rattle.search.specs.Push.{Room, Pushed}
+use Rattle.search.specs.declared.act.Event.{Event}
+use Rattle.search.specs.declared.act.Acted.{Acted}
+use Rattle.search.specs.declared.act.Acted.the-variants.{Fault, Height}
+
+-- an event of a thread of the code's four, whose ticks a cell holds
+pub record Ticks (v : Event) : Type 0 where
+  pub thread : v .thread < mostThreads
+  pub from-small : v .from .0 < half32
+  pub to-small : v .to .0 < half32
+
+-- what a push of a state made from s asks
+pub record Asks (s : State) (v : Event) (b : List ℤ) (height slots : ℕ) : Type 0 where
+  pub ticks : Ticks v
+  pub timed : AllTimed s
+  pub room : Room slots b
+  pub high : height ≤ slots + 1
+
+-- the event is one of the program's
+pub record OfProgram (g : Program) (v : Event) : Type 0 where
+  pub there : v .thread < length (g .threads)
+  pub registers : v .registers ≡ length (threadIn g (v .thread) .regs)
+  pub threads-few : length (g .threads) ≤ mostThreads
+  pub regs-few : v .registers ≤ mostRegisters
+  pub vars-few : length (g .vars) ≤ mostVariables
+  pub locks-few : g .locks ≤ mostLocks
+
+-- a fault, or the states on the stack
+abbrev pub Acts : Sizes → ℕ → List ℤ → List ℤ → ℕ → Acted → S.Next → Type 0
+Acts z slots b c h r (unread q) = (r ≡ Fault (refusalOf q)) × (length c ≡ length b)
+Acts z slots b c h r (states xs) = (k : ℕ) × (r ≡ Height k) × Pushed z slots b c h k xs
+
+-- the thread where it stands after its event
+abbrev pub standingAt : Event → ℕ → List Span → Thread
+standingAt v at regs = record { at = at; clock = record { low = v .from; high = v .to }; regs = regs }
+
+-- the rules' state in which the mover stands there, with these registers
+abbrev pub movedBy : Sizes → State → Event → ℕ → Regs → S.State
+movedBy z s v at rs = moved (stateOf z s) (v .thread) at (v .from .0) (v .to .0) rs (stateOf z s .vars) (stateOf z s .owners)

@@ -1,0 +1,41 @@
+-- What the code fetches of a statement.
+use mathlib.Core.Path.{_≡_}
+use mathlib.Core.Bool.{Bool, true, false}
+use Prim.Native.Nat.{ℕ, _+_, _≤_, _<_}
+use lib.ListN.{length}
+use Rattle.rules.specs.Constants.{mostStatements}
+use Rattle.rules.specs.Program.{isHalt, Statement, Program}
+use Rattle.rules.specs.Format.{Bytes, Names}
+use Rattle.reader.specs.Decoded.{bodyEnd, actionOf}
+use Rattle.reader.specs.Facts.{threadIn, namesIn, Named, Targets, Expresses}
+use Rattle.reader.specs.declared.decoding.Action.{Action}
+use Rattle.reader.specs.declared.decoding.Action.the-variants.{Halt, Skip, Assign, Branch, Store, Load, Unlock, Lock}
+use Rattle.search.specs.declared.fetch.Fetched.{Fetched}
+
+abbrev pub halts : Action → Bool
+halts Halt = true
+halts Skip = false
+halts (Assign r at e) = false
+halts (Branch t at e) = false
+halts (Store r v) = false
+halts (Load r v) = false
+halts (Unlock l) = false
+halts (Lock l) = false
+
+-- the names of thread t
+abbrev pub namesOf : Program → ℕ → Names
+namesOf g t = namesIn (length (g .vars)) (g .locks) (threadIn g t)
+
+-- f is the statement x, at which a thread with number `at` stands
+pub record Fetches (s : Bytes) (ns : Names) (at : ℕ) (x : Statement) (f : Fetched) : Type 0 where
+  pub place : f .place ≡ x .place
+  pub least : f .least ≡ x .least
+  pub greatest : f .greatest ≡ x .greatest
+  pub least-small : f .least < 65536
+  pub greatest-small : f .greatest < 65536
+  pub action : f .action ≡ actionOf (x .place + 9) (bodyEnd s (x .place)) (x .action)
+  pub named : Named ns (x .action)
+  pub targets : Targets mostStatements (x .action)
+  pub expresses : Expresses s (ns .regs) (x .place + 9) (bodyEnd s (x .place)) (x .action)
+  pub body : isHalt (x .action) ≡ false → bodyEnd s (x .place) ≤ length s
+  pub inside : isHalt (x .action) ≡ false → at < mostStatements

@@ -1,0 +1,75 @@
+-- What the threads of a state come to at the beginning of a turn.
+use mathlib.Core.Path.{_≡_}
+use mathlib.Core.Bool.{Bool, true, false, _&&_, not}
+use mathlib.Core.List.{List, [], _∷_}
+use Prim.Native.Nat.{ℕ, _+_, _<_, min, max}
+use lib.ListN.{getD}
+use Rattle.rules.specs.Base.{if_then_else_}
+use Rattle.rules.specs.Constants.{mostLocks}
+use Rattle.rules.specs.Base.{all}
+use Rattle.rules.specs.Lock.{Owner, mayTake}
+use Rattle.rules.specs.Search.{ThreadState, Live, greatestLow, greatestHigh, turnBound, waits}
+use Rattle.reader.specs.declared.decoding.Action.{Action}
+use Rattle.reader.specs.declared.decoding.Action.the-variants.{Halt, Skip, Assign, Branch, Store, Load, Unlock, Lock}
+use Rattle.state.specs.declared.Thread.{Thread}
+use Rattle.state.specs.Shape.{ownerOf}
+use Rattle.search.specs.Fetch.{halts}
+use Rattle.search.specs.declared.fetch.Fetched.{Fetched}
+use Rattle.search.specs.declared.survey.Survey.{Survey}
+
+abbrev pub anyLive : List Live → Bool
+anyLive [] = false
+anyLive (v ∷ vs) = true
+
+abbrev pub boundOf : List Live → ℕ
+boundOf [] = 0
+boundOf (v ∷ vs) = turnBound v vs
+
+-- of the live threads vs among the threads xs
+pub record Surveys (os : List Owner) (vs : List Live) (xs : List ThreadState) (a : Survey) : Type 0 where
+  pub live-is : a .live ≡ anyLive vs
+  pub waiting-is : a .waiting ≡ all (waits os) vs
+  pub bound-is : a .bound ≡ boundOf vs
+  pub low-is : a .low ≡ greatestLow xs
+  pub high-is : a .high ≡ greatestHigh xs
+
+-- ---- what the code adds for one thread
+
+-- a lock that an action names is one of the code's eight
+abbrev pub LockThere : Action → Type 0
+LockThere Halt = Unit {0}
+LockThere Skip = Unit {0}
+LockThere (Assign r at e) = Unit {0}
+LockThere (Branch t at e) = Unit {0}
+LockThere (Store r v) = Unit {0}
+LockThere (Load r v) = Unit {0}
+LockThere (Unlock l) = Unit {0}
+LockThere (Lock l) = l < mostLocks
+
+-- thread t stands at a lock that another owns
+abbrev pub waitsAt : ℕ → Action → List ℕ → Bool
+waitsAt t Halt os = false
+waitsAt t Skip os = false
+waitsAt t (Assign r at e) os = false
+waitsAt t (Branch k at e) os = false
+waitsAt t (Store r v) os = false
+waitsAt t (Load r v) os = false
+waitsAt t (Unlock l) os = false
+waitsAt t (Lock l) os = not (mayTake t (ownerOf (getD os l 0)))
+
+abbrev pub addLive : Survey → ℕ → Bool → Survey
+addLive a due waits = record {
+  live = true;
+  waiting = waits && a .waiting;
+  bound = if a .live then min due (a .bound) else due;
+  low = a .low;
+  high = a .high;
+}
+
+abbrev pub addClock : Survey → ℕ → ℕ → Survey
+addClock a low high = record { live = a .live; waiting = a .waiting; bound = a .bound; low = max low (a .low); high = max high (a .high) }
+
+unfoldable pub addThread : Survey → ℕ → Thread → Fetched → List ℕ → Survey
+addThread a t x f os =
+    let b = addClock a (x .clock .low .0) (x .clock .high .0) in
+    if halts (f .action) then b else addLive b (x .clock .high .0 + f .greatest) (waitsAt t (f .action) os)

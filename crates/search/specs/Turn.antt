@@ -1,0 +1,36 @@
+-- What the events of some threads, and a whole turn, give.
+use mathlib.Core.Path.{_≡_}
+use mathlib.Core.List.{List, []}
+use Prim.Native.Nat.{ℕ, _+_}
+use lib.ListN.{length, drop}
+use lib.IntN.{ℤ}
+use Rattle.rules.specs.Program.{Program}
+use Rattle.rules.specs.Search as S
+use Rattle.rules.specs.Search.{Live, refused, ended, follow, liveFrom, events}
+use Rattle.refusal.specs.Shape.{refusalOf}
+use Rattle.state.specs.Shape.{Sizes}
+use Rattle.search.specs.Push.{Pushed}
+use Rattle.search.specs.declared.turn.Made.{Made}
+use Rattle.search.specs.declared.turn.Made.the-variants.{Fault, Height}
+use Rattle.search.specs.declared.turn.Turned.{Turned}
+use Rattle.search.specs.declared.turn.Turned.the-variants as turned
+
+-- the live threads from number t on
+abbrev pub liveAfter : Program → S.State → ℕ → List Live
+liveAfter g s t = liveFrom t (drop t (g .threads)) (drop t (s .threads))
+
+-- from the buffer b and the height h at the beginning of the turn to the buffer c: a fault, or the states on the stack
+abbrev pub Makes : Sizes → ℕ → List ℤ → ℕ → List ℤ → Made → S.Turn → Type 0
+Makes z slots b h c m (refused r p) = (m ≡ Fault (refusalOf r) p) × (length c ≡ length b)
+Makes z slots b h c m (ended x y) = ⊥
+Makes z slots b h c m (follow xs) = (k : ℕ) × (m ≡ Height k) × Pushed z slots b c h k xs
+
+-- where the next state goes: on what was made, or, once there is a fault, anywhere
+abbrev pub heightOf : Made → ℕ → ℕ
+heightOf (Fault r p) h = h
+heightOf (Height k) h = k
+
+abbrev pub Turns : Sizes → ℕ → List ℤ → ℕ → List ℤ → Turned → S.Turn → Type 0
+Turns z slots b h c m (refused r p) = (m ≡ turned.Refused (refusalOf r) p) × (length c ≡ length b)
+Turns z slots b h c m (ended x y) = (m ≡ turned.Ended x y) × (c ≡ b)
+Turns z slots b h c m (follow xs) = (k : ℕ) × (m ≡ turned.Height k) × Pushed z slots b c h k xs
