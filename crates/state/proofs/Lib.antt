@@ -5,3 +5,5 @@ pub mod Round
 pub mod Stack
 pub mod Ownership
 pub mod Shape
+pub mod Room
+pub mod Initial
