@@ -9,6 +9,7 @@ ghost use Rattle.state.specs.Access.{threadAt, varAt, ownerAt, regAt, wi
 pub mod cells; // the numbers of a state, and the stack of states in the work buffer
 pub mod starting; // the state in which a search starts
 
+pub use cells::NUMBERS_PER_STATE;
 pub use cells::clear;
 pub use cells::load;
 pub use cells::store;
