@@ -2,6 +2,8 @@
 pub mod Writing
 pub mod Timed
 pub mod Round
+pub mod Shape
 pub mod Stack
 pub mod Ownership
-pub mod Shape
+pub mod Room
+pub mod Initial

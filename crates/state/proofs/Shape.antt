@@ -7,7 +7,7 @@ use native.Mathlib.Omega.{arith}
 use native.Mathlib.Nat.{not-suc-le-zero, le-of-suc-le-suc}
 use lib.ListN.{length, take, drop, getD, set, drop-of-length-le, length-map, List·getD-map}
 use Rattle.rules.specs.Expression.{zeroInterval}
-use Rattle.rules.specs.Constants.{mostThreads}
+use Rattle.rules.specs.Constants.{mostThreads, mostVariables, mostLocks}
 use Rattle.rules.specs.Program as P
 use Rattle.rules.specs.Program.{Program, noThread}
 use Rattle.rules.specs.Search as S
@@ -151,6 +151,18 @@ module _ (z : Sizes) (s : State) where
   pub state-owner : (l : ℕ) → l < z .locks → getD (stateOf z s .owners) l none ≡ ownerOf (ownerAt s l)
   unfolding stateOf
   state-owner l h = owners-get (z .locks) (s .owners) l h
+
+  pub state-threads-length : length (z .regs) ≤ mostThreads → length (s .threads) ≡ mostThreads → length (stateOf z s .threads) ≡ length (z .regs)
+  unfolding stateOf
+  state-threads-length k e = threads-length (z .regs) (s .threads) (omega arith)
+
+  pub state-vars-length : z .vars ≤ mostVariables → length (s .vars) ≡ mostVariables → length (stateOf z s .vars) ≡ z .vars
+  unfolding stateOf
+  state-vars-length k e = regs-length (z .vars) (s .vars) (omega arith)
+
+  pub state-owners-length : z .locks ≤ mostLocks → length (s .owners) ≡ mostLocks → length (stateOf z s .owners) ≡ z .locks
+  unfolding stateOf
+  state-owners-length k e = owners-length (z .locks) (s .owners) (omega arith)
 
 -- ---- an event: a thread moved, and with it a variable or an owner
 

@@ -11,12 +11,16 @@ use Rattle.state.specs.declared.State.{State}
 use Rattle.state.specs.Access.{zeroThread, withThread, withVar, withOwner, withReg, withRegs, movedTo}
 use Rattle.state.specs.Cells.{Timed, AllTimed}
 
+-- what holds of four threads, each at its number
+pub at-four : (P : ℕ → Thread → Type 0) (a b c d : Thread) → P 0 a → P 1 b → P 2 c → P 3 d → (t : ℕ) → t < mostThreads → P t (getD (a ∷ b ∷ c ∷ d ∷ []) t zeroThread)
+at-four P a b c d pa pb pc pd zero h = pa
+at-four P a b c d pa pb pc pd (suc zero) h = pb
+at-four P a b c d pa pb pc pd (suc (suc zero)) h = pc
+at-four P a b c d pa pb pc pd (suc (suc (suc zero))) h = pd
+at-four P a b c d pa pb pc pd (suc (suc (suc (suc k)))) h = absurd (omega arith)
+
 pub four-timed : (a b c d : Thread) → Timed a → Timed b → Timed c → Timed d → (t : ℕ) → t < mostThreads → Timed (getD (a ∷ b ∷ c ∷ d ∷ []) t zeroThread)
-four-timed a b c d ta tb tc td zero h = ta
-four-timed a b c d ta tb tc td (suc zero) h = tb
-four-timed a b c d ta tb tc td (suc (suc zero)) h = tc
-four-timed a b c d ta tb tc td (suc (suc (suc zero))) h = td
-four-timed a b c d ta tb tc td (suc (suc (suc (suc k)))) h = absurd (omega arith)
+four-timed = at-four (λ _ th. Timed th)
 
 -- what holds of an element and of the one that is stored holds of an element after the store
 pub set-keeps : {A : Type 0} (P : A → Type 0) (l : List A) (t k : ℕ) (x d : A) → P x → P (getD l k d) → P (getD (set l t x) k d)

@@ -115,10 +115,6 @@ pub spans-16 : (l : List Span) → length (spansCells l) ≡ 16
 unfolding spansCells
 spans-16 l = refl
 
-pub bytes-8 : (l : List ℕ) → length (ownersCells l) ≡ 8
-unfolding ownersCells
-bytes-8 l = refl
-
 pub encode-length : (s : State) → length (encode s) ≡ 100
 unfolding encode
 encode-length s = refl

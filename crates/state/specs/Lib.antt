@@ -2,3 +2,4 @@
 pub mod Access
 pub mod Cells
 pub mod Shape
+pub mod Start

@@ -7,10 +7,13 @@ ghost use Rattle.rules.specs.Constants.{mostThreads, mostVariables, mostRegiste
 ghost use Rattle.state.specs.Access.{threadAt, varAt, ownerAt, regAt, withThread, withVar, withOwner, withReg, withRegs, movedTo};
 
 pub mod cells; // the numbers of a state, and the stack of states in the work buffer
+pub mod starting; // the state in which a search starts
 
+pub use cells::NUMBERS_PER_STATE;
 pub use cells::clear;
 pub use cells::load;
 pub use cells::store;
+pub use starting::start;
 
 // A tick of a clock.
 pub struct Time(pub u32);

@@ -1,6 +1,9 @@
+use Prim.Native.Nat.{_+_, _<_, _^_}
+use lib.Signed.{mag}
+use Rattle.state.proofs.Writing.{again}
 use borrow.Author.Needs.{needs}
 use native.Mathlib.Omega.{arith}
-use lib.ListN.{length-set}
+use lib.ListN.{set, length-set}
 use Rattle.state.proofs.cells.put_span.Statement.{statement}
 use Rattle.state.proofs.cells.put_span.Tie as tie
 use Rattle.state.proofs.cells.put_span.Reads as reads
@@ -25,7 +28,11 @@ same-length : tie.Need-same-length
 same-length c = search needs
 
 returns : tie.Need-returns
-returns c = search needs
+returns c =
+    let s = c .before .before in
+    let l : mag (s .args .v .low .0) < 2 ^ 31 = search needs in
+    let h : mag (s .args .v .high .0) < 2 ^ 31 = search needs in
+    λ i. set (set (s .args .cells .now) (s .args .at) (again (s .args .v .low .0) l i)) (s .args .at + 1) (again (s .args .v .high .0) h i)
 
 pub put-span-spec : {M : Type 1} → statement M
 put-span-spec =
