@@ -8,4 +8,5 @@ pub mod turn; // all events of a state
 pub mod run; // the loop over the stack
 
 pub use run::Outcome;
-pub use run::search;
+pub use run::Window;
+pub use run::search_sheet;

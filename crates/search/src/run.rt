@@ -4,10 +4,12 @@ use crate::survey::greater;
 use crate::survey::lesser;
 use crate::turn::Turned;
 use crate::turn::turn;
+use reader::Index;
 use refusal::Refusal;
 use state::State;
 use state::cells::load;
 use state::cells::store;
+use state::start;
 ghost use mathlib.Core.Path.{_≡_};
 ghost use mathlib.Core.Bool.{Bool, true, false, _&&_, not};
 ghost use mathlib.Core.List.{List, [], _∷_};
@@ -15,7 +17,9 @@ ghost use Prim.Native.Nat.{ℕ, suc, _+_, _≤_, _<_, min, max};
 ghost use lib.ListN.{length, getD, drop};
 ghost use Rattle.rules.specs.Constants.{numbersPerState};
 ghost use Rattle.rules.specs.Search as S;
-ghost use Rattle.rules.specs.Search.{unseen};
+ghost use Rattle.rules.specs.Format.{readSheet};
+ghost use Rattle.rules.specs.Search.{unseen, searchFrom};
+ghost use Rattle.reader.specs.Index.{indexOf};
 ghost use Rattle.state.specs.Shape.{sizesOf, stateOf};
 ghost use Rattle.state.specs.Cells.{AllTimed};
 ghost use Rattle.search.specs.Plan.{programIn, Ready};
@@ -88,4 +92,21 @@ pub fn search(sheet: &[u8], places: &[u16; 256], plan: Plan, first: State, budge
         }
     }
     Outcome::Finds(steps, w)
+}
+
+// The search of a sheet that reads, with its index: from its starting state, on a stack of so many slots.
+pub fn search_sheet(sheet: &[u8], index: Index, work: &mut [i32], slots: usize) -> Outcome
+    requires { ⌜ (index ≡ indexOf (readSheet (now sheet))) × ((index .refusal ≡ 0) × (Room slots (now work) × (1 ≤ slots))) ⌝ }
+    ensures { λ r. ⌜ endOf r ≡ searchFrom (programIn (now (sheet .entry))) slots ⌝ }
+    ensures { λ r. ⌜ length (now (work .exit)) ≡ length (now (work .entry)) ⌝ }
+{
+    let first = start(sheet, index);
+    let places = index.places;
+    let entries = index.entries;
+    let plan = Plan {
+        threads: index.threads,
+        limit: index.limit,
+        entries: entries,
+    };
+    search(sheet, &places, plan, first, index.budget, work, slots)
 }

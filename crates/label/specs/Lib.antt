@@ -1,0 +1,2 @@
+-- The code's answer as the rules' five numbers.
+pub mod Shape
