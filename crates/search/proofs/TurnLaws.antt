@@ -19,7 +19,9 @@ use Rattle.reader.specs.Facts.{statementIn}
 use Rattle.state.specs.Shape.{Sizes, statesOf}
 use Rattle.state.specs.Cells.{stackOf}
 use Rattle.search.specs.Push.{Pushed}
-use Rattle.search.specs.Turn.{liveAfter, Makes}
+use Rattle.search.specs.Act.{Acts}
+use Rattle.search.specs.Turn.{liveAfter, Makes, heightOf, Turns, overOf, turnedOf}
+use Rattle.search.specs.declared.act.Acted.{Acted}
 use Rattle.search.specs.declared.turn.Made.{Made}
 use Rattle.search.specs.declared.turn.Made.the-variants.{Fault, Height}
 
@@ -104,3 +106,19 @@ module _ (z : Sizes) (slots : ℕ) (b c d : List ℤ) (h : ℕ) where
             u .stack l ∙ ap (λ (n : ℕ). xs ++ statesOf z (stackOf n c)) q ∙ ap (λ (w : List S.State). xs ++ w) (v .stack low) ∙ sym (append-assoc xs ys (statesOf z (stackOf h b)));
         same-length = u .same-length ∙ v .same-length;
       }
+
+-- the same by what the code makes of a thread's event
+pub over-makes : (z : Sizes) (slots : ℕ) (b c d : List ℤ) (h : ℕ) (m : Made) (t : Turn) (p : ℕ) (r : Acted) (n : Next) → Makes z slots b h c m t
+    → Acts z slots c d (heightOf m h) r n → Makes z slots b h d (overOf m r p) (before p n t)
+over-makes z slots b c d h m t p r (unread q) k a =
+    subst (λ (x : Acted). Makes z slots b h d (overOf m x p) (before p (unread q) t)) (sym (a .0)) (fault-before z slots b c d h m t p q k (a .1))
+over-makes z slots b c d h (Fault q o) t p r (states xs) k a =
+    subst (λ (x : Acted). Makes z slots b h d (overOf (Fault q o) x p) (before p (states xs) t)) (sym (a .1)) (kept-before z slots b c d h (Fault q o) t p xs q o refl k (a .2 .same-length))
+over-makes z slots b c d h (Height j) t p r (states xs) k a =
+    subst (λ (x : Acted). Makes z slots b h d (overOf (Height j) x p) (before p (states xs) t)) (sym (a .1)) (pushed-before z slots b c d h (Height j) t p xs j (a .0) refl k (a .2))
+
+-- and of all of them
+pub turned-makes : (z : Sizes) (slots : ℕ) (b c : List ℤ) (h : ℕ) (m : Made) (t : Turn) → Makes z slots b h c m t → Turns z slots b h c (turnedOf m) t
+turned-makes z slots b c h m (refused r p) k = (ap turnedOf (k .0), k .1)
+turned-makes z slots b c h m (ended x y) k = absurd k
+turned-makes z slots b c h m (follow xs) k = (k .0, ap turnedOf (k .1), k .2)

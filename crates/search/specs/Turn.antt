@@ -10,6 +10,9 @@ use Rattle.rules.specs.Search.{Live, refused, ended, follow, liveFrom, events}
 use Rattle.refusal.specs.Shape.{refusalOf}
 use Rattle.state.specs.Shape.{Sizes}
 use Rattle.search.specs.Push.{Pushed}
+use Rattle.search.specs.declared.act.Event.{Event}
+use Rattle.search.specs.declared.act.Acted.{Acted}
+use Rattle.search.specs.declared.act.Acted.the-variants as acted
 use Rattle.search.specs.declared.turn.Made.{Made}
 use Rattle.search.specs.declared.turn.Made.the-variants.{Fault, Height}
 use Rattle.search.specs.declared.turn.Turned.{Turned}
@@ -34,3 +37,16 @@ abbrev pub Turns : Sizes → ℕ → List ℤ → ℕ → List ℤ → Turned �
 Turns z slots b h c m (refused r p) = (m ≡ turned.Refused (refusalOf r) p) × (length c ≡ length b)
 Turns z slots b h c m (ended x y) = (m ≡ turned.Ended x y) × (c ≡ b)
 Turns z slots b h c m (follow xs) = (k : ℕ) × (m ≡ turned.Height k) × Pushed z slots b c h k xs
+
+-- what the event of a thread at a place makes of what the later threads made
+abbrev pub overOf : Made → Acted → ℕ → Made
+overOf later (acted.Fault q) p = Fault q p
+overOf (Fault q o) (acted.Height k) p = Fault q o
+overOf (Height h) (acted.Height k) p = Height k
+
+abbrev pub eventOf : ℕ → ℕ → ℕ → ℕ → Event
+eventOf n t from to = record { thread = t; registers = n; from = record { 0 = from }; to = record { 0 = to } }
+
+abbrev pub turnedOf : Made → Turned
+turnedOf (Fault r p) = turned.Refused r p
+turnedOf (Height k) = turned.Height k

@@ -21,17 +21,47 @@ ghost use Rattle.rules.specs.Constants.{half32, mostThreads};
 ghost use Rattle.rules.specs.Program.{Program, Statement};
 ghost use Rattle.rules.specs.Search as S;
 ghost use Rattle.rules.specs.Search.{events, greatestLow};
-ghost use Rattle.reader.specs.Facts.{statementIn};
+ghost use Rattle.reader.specs.Index.{noEntry};
 ghost use Rattle.state.specs.Shape.{sizesOf, stateOf};
 ghost use Rattle.state.specs.Cells.{AllTimed};
 ghost use Rattle.search.specs.Plan.{programIn, Ready};
 ghost use Rattle.search.specs.Push.{Room};
-ghost use Rattle.search.specs.Turn.{liveAfter, Makes, heightOf, Turns};
+ghost use Rattle.search.specs.Turn.{liveAfter, Makes, heightOf, Turns, overOf, eventOf, turnedOf};
 
 // What the events of the last threads made: the new height, or the fault of the first of them that has one.
 pub enum Made {
     Fault(Refusal, usize),
     Height(usize),
+}
+
+// What the event of a thread makes of what the later threads made.
+fn over(later: Made, r: Acted, place: usize) -> Made
+    ensures { λ m. ⌜ m ≡ overOf later r place ⌝ }
+{
+    match r {
+        Acted::Fault(q) => Made::Fault(q, place),
+        Acted::Height(h) => match later {
+            Made::Fault(q, p) => Made::Fault(q, p),
+            Made::Height(_) => Made::Height(h),
+        },
+    }
+}
+
+// The event of thread t between two ticks.
+fn event(plan: Plan, t: usize, from: u32, to: u32) -> Event
+    requires { ⌜ t < mostThreads ⌝ }
+    ensures { λ v. ⌜ v ≡ eventOf (getD (plan .entries) t noEntry .registers) t from to ⌝ }
+{
+    let entry = plan.entries[t];
+    let n = entry.registers as usize;
+    let low = Time(from);
+    let high = Time(to);
+    Event {
+        thread: t,
+        registers: n,
+        from: low,
+        to: high,
+    }
 }
 
 // The event of thread t before what the later threads made.
@@ -64,20 +94,9 @@ fn before(
     if bound < from {
         return later;
     }
-    let entry = plan.entries[t];
-    let v = Event {
-        thread: t,
-        registers: entry.registers as usize,
-        from: Time(from),
-        to: Time(bound),
-    };
-    match act(sheet, s, v, f, work, height, slots) {
-        Acted::Fault(r) => Made::Fault(r, f.place),
-        Acted::Height(h) => match later {
-            Made::Fault(r, p) => Made::Fault(r, p),
-            Made::Height(_) => Made::Height(h),
-        },
-    }
+    let v = event(plan, t, from, bound);
+    let r = act(sheet, s, v, f, work, height, slots);
+    over(later, r, f.place)
 }
 
 fn height_of(m: Made, other: usize) -> usize
@@ -120,6 +139,15 @@ pub enum Turned {
     Height(usize),
 }
 
+fn as_turned(m: Made) -> Turned
+    ensures { λ r. ⌜ r ≡ turnedOf m ⌝ }
+{
+    match m {
+        Made::Fault(r, p) => Turned::Refused(r, p),
+        Made::Height(h) => Turned::Height(h),
+    }
+}
+
 pub fn turn(
     sheet: &[u8],
     places: &[u16; 256],
@@ -143,8 +171,6 @@ pub fn turn(
     if plan.limit < a.bound {
         return Turned::Refused(Refusal::PastLimit, 0);
     }
-    match expand(sheet, places, plan, s, a.low, a.bound, work, height, slots) {
-        Made::Fault(r, p) => Turned::Refused(r, p),
-        Made::Height(h) => Turned::Height(h),
-    }
+    let m = expand(sheet, places, plan, s, a.low, a.bound, work, height, slots);
+    as_turned(m)
 }

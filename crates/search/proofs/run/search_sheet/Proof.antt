@@ -1,0 +1,26 @@
+use borrow.Author.Needs.{needs}
+use Rattle.search.proofs.run.search_sheet.Statement.{statement}
+use Rattle.search.proofs.run.search_sheet.Tie as tie
+use Rattle.search.proofs.run.search_sheet.Reads as reads
+use Rattle.search.proofs.run.search_sheet.Lts as lts
+use Rattle.search.proofs.run.search.Reads as search-reads
+use Rattle.state.proofs.start.Reads as start-reads
+
+-- src/run.rt:103:9
+start-requires : tie.Need-start-requires
+start-requires c κs = search needs
+
+-- src/run.rt:111:5
+search-requires : tie.Need-search-requires
+search-requires c κs = ?
+
+-- src/run.rt:98:1
+same-length : tie.Need-same-length
+same-length c = search needs
+
+-- src/run.rt:98:1
+returns : tie.Need-returns
+returns c = ?
+
+pub search-sheet-spec : {M : Type 1} → statement M
+search-sheet-spec = tie.close (tie.spec start-requires search-requires same-length returns)
