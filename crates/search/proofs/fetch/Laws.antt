@@ -1,6 +1,6 @@
 -- A statement fetched by its number is the program's statement, or none.
 use mathlib.Core.Path.{_≡_, refl, sym, ap, subst, _∙_}
-use mathlib.Core.Bool.{true, false}
+use mathlib.Core.Bool.{false}
 use mathlib.Core.List.{List, [], _∷_}
 use Prim.Native.Nat.{ℕ, _+_, _*_, _≤_, _<_}
 use native.Mathlib.Omega.{arith}
@@ -9,10 +9,10 @@ use denote.Enum.Declared.{tagOf}
 use types.Run.{OneOf, miss}
 use Rattle.rules.specs.Constants.{mostThreads, mostStatements}
 use Rattle.rules.specs.Program as R
-use Rattle.rules.specs.Program.{isHalt, Program, noStatement}
+use Rattle.rules.specs.Program.{isHalt, noStatement}
 use Rattle.rules.specs.Format.{Bytes, Names}
 use Rattle.reader.specs.Index.{noEntry}
-use Rattle.reader.specs.Decoded.{bodyEnd, statementAt, statementOf, actionOf}
+use Rattle.reader.specs.Decoded.{statementAt, statementOf, actionOf}
 use Rattle.reader.specs.Facts.{threadIn, statementIn, StatementFacts, Targets}
 use Rattle.reader.specs.declared.decoding.Action.{Action}
 use Rattle.reader.specs.declared.decoding.Action.the-variants.{Halt, Skip, Assign, Branch, Store, Load, Unlock, Lock}
