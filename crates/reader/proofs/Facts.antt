@@ -22,7 +22,7 @@ use Rattle.rules.proofs.Format.{If, many-if, variables-ordered}
 use Rattle.reader.specs.declared.threads.ThreadEntry.{ThreadEntry}
 use Rattle.reader.specs.declared.Index.{Index}
 use Rattle.reader.specs.Index.{placesOf, layPlaces, noPlaces, noEntry, entryOf, entriesOf, refusedIndex, indexOf}
-use Rattle.reader.specs.Facts.{threadIn, statementIn, namesIn, ranges, Ordered, StatementFacts, ThreadFacts, HeaderFacts, ProgramFacts, IndexFacts}
+use Rattle.reader.specs.Facts.{threadIn, statementIn, namesIn, ranges, Ordered, Targets, StatementFacts, ThreadFacts, HeaderFacts, ProgramFacts, IndexFacts}
 use Rattle.reader.proofs.IfAt.{IfAt, need-at, then-at, sized-at, due-at, any-at, plain, both-at, weaker-at, with-reading, when-got, many-at, many-few}
 use Rattle.reader.proofs.Loops.{map-length}
 use Rattle.reader.proofs.ThreadFacts.{variables-row, variables-few, thread-facts}
@@ -145,6 +145,9 @@ module _ {s : Bytes} {g : Program} (f : ProgramFacts s g) (t : ℕ) (r : t < len
 
   pub statement-in : (k : ℕ) → k < length (threadIn g t .statements) → StatementFacts (namesIn (length (g .vars)) (g .locks) (threadIn g t)) s (statementIn g t k)
   statement-in k b = each-get _ (threadIn g t .statements) k noStatement (thread-in .statements) b
+
+  pub target-in : (k : ℕ) → k < length (threadIn g t .statements) → Targets (length (threadIn g t .statements)) (statementIn g t k .action)
+  target-in k b = each-get (λ x. Targets (length (threadIn g t .statements)) (x .action)) (threadIn g t .statements) k noStatement (thread-in .targets) b
 
 -- ---- a table, element by element
 

@@ -1,0 +1,143 @@
+-- A statement fetched by its number is the program's statement, or none.
+use mathlib.Core.Path.{_≡_, refl, sym, ap, subst, _∙_}
+use mathlib.Core.Bool.{false}
+use mathlib.Core.List.{List, [], _∷_}
+use Prim.Native.Nat.{ℕ, _+_, _*_, _≤_, _<_}
+use native.Mathlib.Omega.{arith}
+use lib.ListN.{length, getD, List·getD-eq-default}
+use denote.Enum.Declared.{tagOf}
+use types.Run.{OneOf, miss}
+use Rattle.rules.specs.Constants.{mostThreads, mostStatements}
+use Rattle.rules.specs.Program as R
+use Rattle.rules.specs.Program.{isHalt, noStatement}
+use Rattle.rules.specs.Format.{Bytes, Names}
+use Rattle.reader.specs.Index.{noEntry}
+use Rattle.reader.specs.Decoded.{statementAt, statementOf, actionOf}
+use Rattle.reader.specs.Facts.{threadIn, statementIn, StatementFacts, Targets}
+use Rattle.reader.specs.declared.decoding.Action.{Action}
+use Rattle.reader.specs.declared.decoding.Action.the-variants.{Halt, Skip, Assign, Branch, Store, Load, Unlock, Lock}
+use Rattle.reader.specs.declared.decoding.Statement.{Statement}
+use Rattle.reader.proofs.Facts.{thread-in, statement-in, target-in}
+use Rattle.reader.proofs.decoding.Action as action
+use Rattle.search.specs.declared.plan.Plan.{Plan}
+use Rattle.search.specs.declared.fetch.Fetched.{Fetched}
+use Rattle.search.specs.Plan.{programIn, Ready}
+use Rattle.search.specs.Fetch.{halts, namesOf, Fetches}
+
+-- ---- which action halts
+
+-- the numbers of the variants behind `Halt`
+abbrev pub goingOn : List ℕ
+goingOn = 1 ∷ 2 ∷ 3 ∷ 4 ∷ 5 ∷ 6 ∷ 7 ∷ []
+
+pub goes-on : (a : Action) → OneOf goingOn (tagOf action.the-type a) → false ≡ halts a
+goes-on Halt h = absurd (miss goingOn 0 tt h)
+goes-on Skip h = refl
+goes-on (Assign r at e) h = refl
+goes-on (Branch t at e) h = refl
+goes-on (Store r v) h = refl
+goes-on (Load r v) h = refl
+goes-on (Unlock l) h = refl
+goes-on (Lock l) h = refl
+
+pub halts-same : (at e : ℕ) (o : R.Action) → halts (actionOf at e o) ≡ isHalt o
+unfolding actionOf isHalt
+halts-same at e R.halt = refl
+halts-same at e R.skip = refl
+halts-same at e (R.assign r a) = refl
+halts-same at e (R.branch t c) = refl
+halts-same at e (R.store r v) = refl
+halts-same at e (R.load r v) = refl
+halts-same at e (R.unlock l) = refl
+halts-same at e (R.lock l) = refl
+
+-- ---- no statement, and the statement at a place
+
+not-halt : {A : Type 0} → isHalt R.halt ≡ false → A
+unfolding isHalt
+not-halt h = let z : _≡_ {A = ℕ} 0 1 = cc in absurd (omega arith)
+
+pub none-fetches : (s : Bytes) (ns : Names) (at : ℕ) → Fetches s ns at noStatement (record { place = 0; least = 0; greatest = 0; action = Halt })
+unfolding actionOf
+none-fetches s ns at = record {
+  place = refl;
+  least = refl;
+  greatest = refl;
+  least-small = omega arith;
+  greatest-small = omega arith;
+  action = refl;
+  named = tt;
+  targets = tt;
+  expresses = tt;
+  body = λ h. not-halt h;
+  inside = λ h. not-halt h;
+}
+
+pub at-fetches : (s : Bytes) (place : ℕ) (r : Statement) → r ≡ statementAt s place → r .least < 65536 → r .greatest < 65536
+    → (ns : Names) (at : ℕ) (x : R.Statement) → place ≡ x .place → at < mostStatements → StatementFacts ns s x → Targets mostStatements (x .action)
+    → Fetches s ns at x (record { place = place; least = r .least; greatest = r .greatest; action = r .action })
+at-fetches s place r e l g ns at x p h f w =
+    let same : r ≡ statementOf s x = e ∙ ap (statementAt s) p ∙ f .decoded in
+    record {
+      place = p;
+      least = ap (λ (y : Statement). y .least) same;
+      greatest = ap (λ (y : Statement). y .greatest) same;
+      least-small = l;
+      greatest-small = g;
+      action = ap (λ (y : Statement). y .action) same;
+      named = f .named;
+      targets = w;
+      expresses = f .expresses;
+      body = λ _. f .body;
+      inside = λ _. h;
+    }
+
+-- ---- statement k of thread t
+
+targets-more : (n m : ℕ) (o : R.Action) → n ≤ m → Targets n o → Targets m o
+targets-more n m R.halt h w = tt
+targets-more n m R.skip h w = tt
+targets-more n m (R.assign r a) h w = tt
+targets-more n m (R.branch t c) h w = omega arith
+targets-more n m (R.store r v) h w = tt
+targets-more n m (R.load r v) h w = tt
+targets-more n m (R.unlock l) h w = tt
+targets-more n m (R.lock l) h w = tt
+
+module _ {s : Bytes} {p : Plan} {places : List ℕ} (w : Ready s p places) (t k : ℕ) (b : t < length (programIn s .threads)) where
+  count-is : getD (p .entries) t noEntry .statements ≡ length (threadIn (programIn s) t .statements)
+  count-is = ap (λ e. e .statements) (w .entries t b)
+
+  -- there is none
+  pub none-there : {f : Fetched} → getD (p .entries) t noEntry .statements ≤ k → ((s : Bytes) (ns : Names) (at : ℕ) → Fetches s ns at noStatement f)
+      → Fetches s (namesOf (programIn s) t) k (statementIn (programIn s) t k) f
+  none-there {f} h e =
+      let past : length (threadIn (programIn s) t .statements) ≤ k = omega (arith, count-is) in
+      subst (λ x. Fetches s (namesOf (programIn s) t) k x f) (sym (List·getD-eq-default (threadIn (programIn s) t .statements) noStatement past))
+      (e s (namesOf (programIn s) t) k)
+
+  -- there is one
+  module _ (h : k < getD (p .entries) t noEntry .statements) where
+    counted : k < length (threadIn (programIn s) t .statements)
+    counted = omega (arith, count-is)
+
+    few : k < mostStatements
+    few = omega (arith, counted, thread-in (w .facts) t b .few)
+
+    place-is : getD places (t * mostStatements + k) 0 ≡ statementIn (programIn s) t k .place
+    place-is = w .places-are t k b counted
+
+    pub index-small : t * mostStatements + k < mostThreads * mostStatements
+    index-small = omega (arith, few, w .facts .threads-few)
+
+    pub place-head : getD places (t * mostStatements + k) 0 + 8 ≤ length s
+    place-head = omega (arith, place-is, statement-in (w .facts) t b k counted .head)
+
+    pub one-there : {f : Fetched}
+        → ((ns : Names) (at : ℕ) (x : R.Statement) → getD places (t * mostStatements + k) 0 ≡ x .place → at < mostStatements → StatementFacts ns s x
+        → Targets mostStatements (x .action) → Fetches s ns at x f)
+        → Fetches s (namesOf (programIn s) t) k (statementIn (programIn s) t k) f
+    one-there e =
+        e (namesOf (programIn s) t) k (statementIn (programIn s) t k) place-is few (statement-in (w .facts) t b k counted)
+        (targets-more (length (threadIn (programIn s) t .statements)) mostStatements (statementIn (programIn s) t k .action)
+        (thread-in (w .facts) t b .few) (target-in (w .facts) t b k counted))

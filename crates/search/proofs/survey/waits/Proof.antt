@@ -1,0 +1,32 @@
+-- `search::survey::waits` meets its contract. Assumes nothing.
+use mathlib.Core.Path.{sym, ap, subst, _∙_}
+use mathlib.Core.Bool.{not}
+use borrow.Author.Needs.{needs}
+use Rattle.reader.specs.declared.decoding.Action.{Action}
+use Rattle.search.specs.Survey.{LockThere, waitsAt}
+use Rattle.search.proofs.survey.Laws.{no-lock}
+use Rattle.search.proofs.survey.waits.Statement.{statement}
+use Rattle.search.proofs.survey.waits.Tie as tie
+
+enum-known-action : tie.Need-enum-known-action
+enum-known-action c = search needs
+
+array-read-o : tie.Need-array-read-o
+array-read-o c = subst LockThere (c .before .action .given .1) (c .before .before .before .pre .1)
+
+may-take-requires : tie.Need-may-take-requires
+may-take-requires c κs = search needs
+
+returns : tie.Need-returns
+returns c =
+    let arg = c .before .before .before .before .args in
+    ap not (c .may-take .ensures) ∙ ap (λ (k : Action). waitsAt (arg .t) k (arg .t3)) (sym (c .before .before .action .given .1))
+
+returns-2 : tie.Need-returns-2
+returns-2 c =
+    let arg = c .before .args in
+    no-lock (arg .t) (arg .action) (arg .t3) (c .match .keys2)
+
+pub waits-spec : {M : Type 1} → statement M
+waits-spec =
+    tie.close (tie.spec enum-known-action array-read-o may-take-requires returns returns-2)

@@ -1,0 +1,45 @@
+-- `search::survey::with_thread` meets its contract. Assumes nothing.
+use mathlib.Core.Path.{sym, _∙_}
+use Prim.Native.Nat.{_+_}
+use borrow.Author.Needs.{needs}
+use Rattle.search.specs.Survey.{addLive, addThread}
+use Rattle.search.proofs.survey.with_thread.Statement.{statement}
+use Rattle.search.proofs.survey.with_thread.Tie as tie
+
+with-clock-requires : tie.Need-with-clock-requires
+with-clock-requires c κs = search needs
+
+is-halt-requires : tie.Need-is-halt-requires
+is-halt-requires c κs = search needs
+
+returns : tie.Need-returns
+unfolding addThread
+returns c = rw (sym (c .before .is-halt .ensures) ∙ c .if1 .taken) (c .before .before .with-clock .ensures)
+
+add-due : tie.Need-add-due
+add-due c = search needs
+
+waits-requires : tie.Need-waits-requires
+waits-requires c κs = search needs
+
+with-live-requires : tie.Need-with-live-requires
+with-live-requires c κs = search needs
+
+returns-2 : tie.Need-returns-2
+unfolding addThread
+returns-2 c =
+    let arg = c .before .before .before .before .before .before .args in
+    rw (sym (c .before .before .before .before .is-halt .ensures) ∙ c .before .before .before .if1 .left)
+    (c .with-live .ensures ∙ (λ i. addLive (c .before .before .before .before .before .with-clock .ensures i) (arg .x .clock .high .0 + arg .f .greatest) (c .before .waits .ensures i)))
+
+pub with-thread-spec : {M : Type 1} → statement M
+with-thread-spec =
+    tie.close
+    (tie.spec
+    with-clock-requires
+    is-halt-requires
+    returns
+    add-due
+    waits-requires
+    with-live-requires
+    returns-2)
