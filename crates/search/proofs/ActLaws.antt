@@ -1,8 +1,8 @@
 -- The event of a thread: its owners, the state that it makes, and what the rules' effect is there. Assumes nothing.
 use mathlib.Core.Path.{_≡_, refl, sym, ap, subst, _∙_}
-use mathlib.Core.Bool.{Bool, true, false}
-use mathlib.Core.Option.{Option, none, some}
-use mathlib.Core.List.{List, [], _∷_, _++_}
+use mathlib.Core.Bool.{true, false}
+use mathlib.Core.Option.{Option, none}
+use mathlib.Core.List.{List, [], _∷_}
 use Prim.Native.Nat.{ℕ, zero, suc, _+_, _≤_, _<_}
 use native.Mathlib.Omega.{arith}
 use lib.Dec.{eqb, eqb·suc-suc}
@@ -11,14 +11,12 @@ use lib.Seq.{set-getD}
 use lib.IntN.{ℤ}
 use borrow.Author.Tests.{eq-eqb, ne-eqb}
 use Rattle.rules.specs.Base.{if_then_else_}
-use Rattle.rules.specs.Constants.{deepest, half32, mostStatements, mostRegisters, mostVariables, mostLocks}
-use Rattle.rules.specs.Interval.{Interval}
-use Rattle.rules.specs.Refusal as R
-use Rattle.rules.specs.Refusal.{Result, value, fault}
+use Rattle.rules.specs.Constants.{deepest, mostStatements, mostRegisters, mostVariables, mostLocks}
+use Rattle.rules.specs.Refusal.{value, fault}
 use Rattle.rules.specs.Program as P
 use Rattle.rules.specs.Program.{isHalt, Statement}
 use Rattle.rules.specs.Lock.{mayTake, afterUnlock, afterLock}
-use Rattle.rules.specs.Expression.{Regs, zeroInterval, evaluate, allParts, narrowYes, narrowNo}
+use Rattle.rules.specs.Expression.{Regs, evaluate, allParts, narrowYes, narrowNo}
 use Rattle.rules.specs.Format.{Bytes, Names, got, readArith, readCondition}
 use Rattle.rules.specs.Search as S
 use Rattle.rules.specs.Search.{effect, fromValue, branches, unlessEmpty}
@@ -29,23 +27,22 @@ use Rattle.interval.specs.declared.Span.{Span}
 use Rattle.interval.specs.Shape.{intervalOf}
 use Rattle.expression.specs.Evaluation.{regsOf}
 use Rattle.reader.specs.Decoded.{bodyEnd, actionOf}
-use Rattle.reader.specs.Facts.{threadIn, Named, Targets, Expresses}
+use Rattle.reader.specs.Facts.{Named, Targets, Expresses}
 use Rattle.reader.specs.declared.decoding.Action.{Action}
 use Rattle.reader.specs.declared.decoding.Action.the-variants.{Halt, Skip, Assign, Branch, Store, Load, Unlock, Lock}
 use Rattle.state.specs.declared.Thread.{Thread}
 use Rattle.state.specs.declared.State.{State}
-use Rattle.state.specs.Access.{threadAt, varAt, ownerAt, regAt, withThread, withVar, withOwner}
+use Rattle.state.specs.Access.{ownerAt, withThread, withVar, withOwner}
 use Rattle.state.specs.Cells.{AllTimed}
 use Rattle.state.specs.Shape.{Sizes, ownerOf, threadOf, sizesOf, stateOf}
-use Rattle.state.proofs.Shape.{regs-set, regs-get, state-owner, moved-state, moved-var-state, moved-owner-state, sizes-regs}
+use Rattle.state.proofs.Shape.{state-owner, moved-state, moved-var-state, moved-owner-state, sizes-regs}
 use Rattle.state.proofs.Timed.{with-thread-timed}
 use Rattle.search.specs.declared.fetch.Fetched.{Fetched}
 use Rattle.search.specs.declared.act.Event.{Event}
-use Rattle.search.specs.declared.act.Acted.{Acted}
 use Rattle.search.specs.declared.act.Acted.the-variants as acted
 use Rattle.search.specs.Plan.{programIn}
 use Rattle.search.specs.Fetch.{namesOf, Fetches}
-use Rattle.search.specs.Push.{Room, Pushed}
+use Rattle.search.specs.Push.{Pushed}
 use Rattle.search.specs.Act.{Asks, OfProgram, Acts, standingAt, movedBy}
 use Rattle.search.proofs.PushLaws.{then-pushed}
 
@@ -158,19 +155,20 @@ module _ (z : Sizes) (slots : ℕ) (b : List ℤ) (h : ℕ) (s : State) (v : Eve
     unfolding effect branches
     branch-faults q e = rw (sym e) (ap acted.Fault (refusal-back q), refl)
 
-    pub branches-on : (c d : List ℤ) (k m : ℕ) (taken passed : ℕ → Option Regs) → getD (z .regs) (v .thread) 0 ≡ v .registers
+    pub branches-on : (c d : List ℤ) (k m on : ℕ) (taken passed : ℕ → Option Regs) → getD (z .regs) (v .thread) 0 ≡ v .registers → on ≡ suc (x .at)
         → value tt ≡ allParts a (regsOf (v .registers) (x .regs))
         → taken (v .registers) ≡ narrowYes a (regsOf (v .registers) (x .regs))
         → passed (v .registers) ≡ narrowNo a (regsOf (v .registers) (x .regs))
-        → Pushed z slots b c h k (unlessEmpty (λ rs. movedBy z s v (suc (x .at)) rs) (passed (getD (z .regs) (v .thread) 0)))
+        → Pushed z slots b c h k (unlessEmpty (λ rs. movedBy z s v on rs) (passed (getD (z .regs) (v .thread) 0)))
         → Pushed z slots c d k m (unlessEmpty (λ rs. movedBy z s v to rs) (taken (getD (z .regs) (v .thread) 0)))
         → Acts z slots b d h (acted.Height m) (effect (stateOf z s) (v .thread) (threadOf (v .registers) x) (v .from .0) (v .to .0) (P.branch to a))
     unfolding effect branches
-    branches-on c d k m taken passed n e ey en p q =
+    branches-on c d k m on taken passed n eo e ey en p q =
         let p′ : Pushed z slots b c h k (unlessEmpty (λ rs. movedBy z s v (suc (x .at)) rs) (narrowNo a (regsOf (v .registers) (x .regs)))) =
-            subst (λ (o : Option Regs). Pushed z slots b c h k (unlessEmpty (λ rs. movedBy z s v (suc (x .at)) rs) o)) (ap passed n ∙ en) p in
+        subst (λ (o : Option Regs). Pushed z slots b c h k (unlessEmpty (λ rs. movedBy z s v (suc (x .at)) rs) o)) (ap passed n ∙ en)
+        (subst (λ (i : ℕ). Pushed z slots b c h k (unlessEmpty (λ rs. movedBy z s v i rs) (passed (getD (z .regs) (v .thread) 0)))) eo p) in
         let q′ : Pushed z slots c d k m (unlessEmpty (λ rs. movedBy z s v to rs) (narrowYes a (regsOf (v .registers) (x .regs)))) =
-            subst (λ (o : Option Regs). Pushed z slots c d k m (unlessEmpty (λ rs. movedBy z s v to rs) o)) (ap taken n ∙ ey) q in
+        subst (λ (o : Option Regs). Pushed z slots c d k m (unlessEmpty (λ rs. movedBy z s v to rs) o)) (ap taken n ∙ ey) q in
         rw (sym e) (m, refl, then-pushed p′ q′)
 
 -- ---- the statement that was fetched
@@ -202,3 +200,50 @@ module _ (s : Bytes) (ns : Names) where
   fetched at x f k w e =
       subst (λ (i : Action). Means s ns (x .place + 9) (bodyEnd s (x .place)) i (x .action)) (sym (w .action) ∙ e)
       (means (x .place + 9) (bodyEnd s (x .place)) (x .action) (w .named) (w .targets) (w .expresses))
+
+pub sizes-are : (s : Bytes) (v : Event) → OfProgram (programIn s) v → getD (sizesOf (programIn s) .regs) (v .thread) 0 ≡ v .registers
+sizes-are s v o = sizes-regs (programIn s) (v .thread) ∙ sym (o .registers)
+
+-- what each arm asks
+module _ (s : Bytes) (v : Event) (at : ℕ) (x : Statement) (f : Fetched) (o : OfProgram (programIn s) v) (w : Fetches s (namesOf (programIn s) (v .thread)) at x f) where
+  pub skip-asks : f .action ≡ Skip → at < mostStatements
+  unfolding isHalt
+  skip-asks e = w .inside (ap isHalt (fetched s (namesOf (programIn s) (v .thread)) at x f Skip w e))
+
+  pub assign-asks : (r p e : ℕ) → f .action ≡ Assign r p e → (at < mostStatements) × ((r < mostRegisters) × ((v .registers ≤ mostRegisters) × (e ≤ length s)))
+  unfolding isHalt
+  assign-asks r p e k =
+      let m = fetched s (namesOf (programIn s) (v .thread)) at x f (Assign r p e) w k in
+      let live : isHalt (x .action) ≡ false = ap isHalt (m .1 .0) in
+      (w .inside live, (omega (arith, m .1 .1 .0, o .registers, o .regs-few), (o .regs-few, omega (arith, m .1 .1 .1 .0, w .body live))))
+
+  pub branch-asks : (t p e : ℕ) → f .action ≡ Branch t p e → (at < mostStatements) × ((t < mostStatements) × ((v .registers ≤ mostRegisters) × (e ≤ length s)))
+  unfolding isHalt
+  branch-asks t p e k =
+      let m = fetched s (namesOf (programIn s) (v .thread)) at x f (Branch t p e) w k in
+      let live : isHalt (x .action) ≡ false = ap isHalt (m .1 .0) in
+      (w .inside live, (m .1 .1 .0, (o .regs-few, omega (arith, m .1 .1 .1 .0, w .body live))))
+
+  pub store-asks : (r k : ℕ) → f .action ≡ Store r k → (at < mostStatements) × ((r < mostRegisters) × (k < mostVariables))
+  unfolding isHalt
+  store-asks r k e =
+      let m = fetched s (namesOf (programIn s) (v .thread)) at x f (Store r k) w e in
+      (w .inside (ap isHalt (m .0)), (omega (arith, m .1 .0, o .registers, o .regs-few), omega (arith, m .1 .1, o .vars-few)))
+
+  pub load-asks : (r k : ℕ) → f .action ≡ Load r k → (at < mostStatements) × ((r < mostRegisters) × (k < mostVariables))
+  unfolding isHalt
+  load-asks r k e =
+      let m = fetched s (namesOf (programIn s) (v .thread)) at x f (Load r k) w e in
+      (w .inside (ap isHalt (m .0)), (omega (arith, m .1 .0, o .registers, o .regs-few), omega (arith, m .1 .1, o .vars-few)))
+
+  pub unlock-asks : (l : ℕ) → f .action ≡ Unlock l → (at < mostStatements) × (l < mostLocks)
+  unfolding isHalt
+  unlock-asks l e =
+      let m = fetched s (namesOf (programIn s) (v .thread)) at x f (Unlock l) w e in
+      (w .inside (ap isHalt (m .0)), omega (arith, m .1, o .locks-few))
+
+  pub lock-asks : (l : ℕ) → f .action ≡ Lock l → (at < mostStatements) × (l < mostLocks)
+  unfolding isHalt
+  lock-asks l e =
+      let m = fetched s (namesOf (programIn s) (v .thread)) at x f (Lock l) w e in
+      (w .inside (ap isHalt (m .0)), omega (arith, m .1, o .locks-few))

@@ -1,3 +1,4 @@
+-- `search::act::load` meets its contract. Assumes nothing.
 use mathlib.Core.Path.{refl, sym, ap}
 use Prim.Native.Nat.{suc}
 use lib.ListN.{getD, set}
@@ -10,32 +11,28 @@ use Rattle.search.proofs.ActLaws.{pushed-as}
 use borrow.Author.Needs.{needs}
 use Rattle.search.proofs.act.load.Statement.{statement}
 use Rattle.search.proofs.act.load.Tie as tie
-use Rattle.search.proofs.act.load.Reads as reads
-use Rattle.search.proofs.act.load.Lts as lts
-use Rattle.search.proofs.act.write_register.Reads as write-register-reads
 
--- src/act.rt:251:13
 mul-i : tie.Need-mul-i
 mul-i c = search needs
 
--- src/act.rt:251:13
 element-copy-out-i : tie.Need-element-copy-out-i
 element-copy-out-i c = search needs
 
--- src/act.rt:252:5
 write-register-requires : tie.Need-write-register-requires
 write-register-requires c κs = search needs
 
--- src/act.rt:236:1
 same-length : tie.Need-same-length
 same-length c = search needs
 
--- src/act.rt:236:1
 returns : tie.Need-returns
 unfolding effect
 returns c = let arg = c .before .before .before .before .args in
-    λ z h. (c .before .write-register .result, refl, pushed-as (ap (λ (i : Interval). movedBy z (arg .t1) (arg .v) (suc (arg .x .at)) (set (regsOf (getD (z .regs) (arg .v .thread) 0) (arg .x .regs)) (arg .r) i))
-        (sym (state-var z (arg .t1) (arg .k) h))) (c .before .write-register .ensures z))
+    λ z h. (
+      c .before .write-register .result,
+      refl,
+      pushed-as (ap (λ (i : Interval). movedBy z (arg .t1) (arg .v) (suc (arg .x .at)) (set (regsOf (getD (z .regs) (arg .v .thread) 0) (arg .x .regs)) (arg .r) i))
+          (sym (state-var z (arg .t1) (arg .k) h))) (c .before .write-register .ensures z),
+    )
 
 pub load-spec : {M : Type 1} → statement M
 load-spec =

@@ -1,3 +1,4 @@
+-- `search::act::lock` meets its contract. Assumes nothing.
 use mathlib.Core.Path.{refl, sym, _∙_}
 use Rattle.rules.specs.Search.{effect}
 use Rattle.state.proofs.Timed.{with-owner-timed}
@@ -5,67 +6,47 @@ use Rattle.search.proofs.ActLaws.{pushed-as, moved-timed, locks, waits-
 use borrow.Author.Needs.{needs}
 use Rattle.search.proofs.act.lock.Statement.{statement}
 use Rattle.search.proofs.act.lock.Tie as tie
-use Rattle.search.proofs.act.lock.Reads as reads
-use Rattle.search.proofs.act.lock.Lts as lts
-use Rattle.search.proofs.act.may_take.Reads as may-take-reads
-use Rattle.search.proofs.act.moved.Reads as moved-reads
-use Rattle.search.proofs.act.next.Reads as next-reads
-use Rattle.search.proofs.act.owner.Reads as owner-reads
-use Rattle.search.proofs.push.push.Reads as push-reads
 
--- src/act.rt:307:13
 element-copy-out-o : tie.Need-element-copy-out-o
 element-copy-out-o c = search needs
 
--- src/act.rt:309:8
 may-take-requires : tie.Need-may-take-requires
 may-take-requires c κs = search needs
 
--- src/act.rt:310:13
 owner-requires : tie.Need-owner-requires
 owner-requires c κs = search needs
 
--- src/act.rt:311:13
 next-requires : tie.Need-next-requires
 next-requires c κs = search needs
 
--- src/act.rt:312:21
 moved-requires : tie.Need-moved-requires
 moved-requires c κs = search needs
 
--- src/act.rt:313:9
 element-write-u : tie.Need-element-write-u
 element-write-u c = search needs
 
--- src/act.rt:314:9
 push-requires : tie.Need-push-requires
 push-requires c κs = let arg = c .before .before .before .before .before .before .before .before .args in
     let a = c .before .before .before .before .before .before .before .before .pre .0 in (a .room, (a .high, with-owner-timed (c .before .moved .result) (arg .l) (c .before .before .before .owner .result) (moved-timed (arg .t1) (arg .v) (c .before .before .next .result) (arg .x .regs) (c .before .moved .result) (c .before .moved .ensures) a)))
 
--- src/act.rt:314:9
 same-length : tie.Need-same-length
 same-length c = search needs
 
--- src/act.rt:314:9
 returns : tie.Need-returns
 unfolding effect
 returns c = let arg = c .before .before .before .before .before .before .before .before .before .before .args in
     λ z h. (c .before .push .result, refl, pushed-as (locks z (arg .t1) (arg .v) (arg .x) (arg .l) h (c .before .before .before .moved .result) (c .before .before .before .before .next .result) (c .before .before .before .moved .ensures) (c .before .before .before .before .before .owner .result) (c .before .before .before .before .next .ensures) (c .before .before .before .before .before .owner .ensures) (sym (c .before .before .before .before .before .before .before .may-take .ensures) ∙ c .before .before .before .before .before .before .if1 .taken)) (c .before .push .ensures z))
 
--- src/act.rt:317:31
 moved-requires-2 : tie.Need-moved-requires-2
 moved-requires-2 c κs = search needs
 
--- src/act.rt:317:5
 push-requires-2 : tie.Need-push-requires-2
 push-requires-2 c κs = let arg = c .before .before .before .before .before .before .args in
     let a = c .before .before .before .before .before .before .pre .0 in (a .room, (a .high, moved-timed (arg .t1) (arg .v) (arg .x .at) (arg .x .regs) (c .moved2 .result) (c .moved2 .ensures) a))
 
--- src/act.rt:300:1
 same-length-2 : tie.Need-same-length-2
 same-length-2 c = search needs
 
--- src/act.rt:300:1
 returns-2 : tie.Need-returns-2
 unfolding effect
 returns-2 c = let arg = c .before .before .before .before .before .before .before .before .args in

@@ -1,35 +1,27 @@
+-- `search::push::push` meets its contract. Assumes nothing.
 use Rattle.state.specs.Shape.{stateOf}
 use Rattle.state.proofs.Ownership.{sound-of}
 use Rattle.search.proofs.PushLaws.{one-pushed, none-fits}
 use borrow.Author.Needs.{needs}
 use Rattle.search.proofs.push.push.Statement.{statement}
 use Rattle.search.proofs.push.push.Tie as tie
-use Rattle.search.proofs.push.push.Reads as reads
-use Rattle.search.proofs.push.push.Lts as lts
-use Rattle.state.proofs.store.Reads as store-reads
 
--- src/push.rt:16:9
 store-requires : tie.Need-store-requires
 store-requires c κs = search needs
 
--- src/push.rt:17:16
 add-result : tie.Need-add-result
 add-result c = search needs
 
--- src/push.rt:17:9
 same-length : tie.Need-same-length
 same-length c = search needs
 
--- src/push.rt:17:9
 returns : tie.Need-returns
 returns c = let arg = c .before .before .before .before .args in
     λ z. rw (c .before .store .ensures) (one-pushed (arg .work .now) (arg .height) (arg .s) (c .before .before .before .if1 .taken) (c .before .before .before .before .pre .0) (sound-of (arg .s) (c .before .before .before .before .good .1 .1 .1 .0 .0) (c .before .before .before .before .good .1 .1 .1 .0 .1 .1)))
 
--- src/push.rt:19:5
 add-result-2 : tie.Need-add-result-2
 add-result-2 c = search needs
 
--- src/push.rt:11:1
 returns-2 : tie.Need-returns-2
 returns-2 c = λ z. none-fits (stateOf z (c .before .args .s)) (c .if1 .left) (c .before .pre .1 .0)
 
