@@ -1,3 +1,6 @@
+-- Laws of the search, from states on the stack up to the loop.
+pub mod PushLaws
+pub mod ActLaws
 pub mod TurnLaws
-pub mod RunLaws
 pub mod EventLaws
+pub mod RunLaws

@@ -1,29 +1,19 @@
 -- `search::act::may_take` meets its contract. Assumes nothing.
-use mathlib.Core.Path.{_≡_, refl, ap, _∙_}
-use Prim.Native.Nat.{ℕ, zero, suc}
-use lib.Dec.{eqb, eqb·suc-suc}
+use Rattle.search.proofs.ActLaws.{free-may, owned-may}
 use borrow.Author.Needs.{needs}
-use Rattle.rules.specs.Lock.{mayTake}
-use Rattle.state.specs.Shape.{ownerOf}
 use Rattle.search.proofs.act.may_take.Statement.{statement}
 use Rattle.search.proofs.act.may_take.Tie as tie
 
-take-same : (t o r : ℕ) → (o ≡ 0 → ⊥) → r ≡ suc t → eqb o r ≡ mayTake t (ownerOf o)
-unfolding mayTake
-take-same t zero r h e = absurd (h refl)
-take-same t (suc u) r h e = ap (eqb (suc u)) e ∙ eqb·suc-suc u t
-
 returns : tie.Need-returns
-unfolding mayTake
-returns c = rw (c .if1 .taken)
+returns c = let arg = c .before .args in
+    free-may (arg .t) (arg .o) (c .if1 .taken)
 
 owner-requires : tie.Need-owner-requires
 owner-requires c κs = search needs
 
 returns-2 : tie.Need-returns-2
-returns-2 c =
-    let arg = c .before .before .args in
-    take-same (arg .t) (arg .o) (c .owner .result) (c .before .if1 .left) (c .owner .ensures)
+returns-2 c = let arg = c .before .before .args in
+    rw (c .owner .ensures) (owned-may (arg .t) (arg .o) (c .before .if1 .left))
 
 pub may-take-spec : {M : Type 1} → statement M
 may-take-spec = tie.close (tie.spec returns owner-requires returns-2)
