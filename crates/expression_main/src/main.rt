@@ -73,20 +73,24 @@ fn print_case(text: &[u8], a: Span, b: Span) {
     print(b": ");
 }
 
-// An expression evaluated.
-fn value(text: &[u8], code: &[u8], a: Span, b: Span) {
-    print_case(text, a, b);
-    match expression::assigned_value(code, 0, code.len(), 2, registers(a, b)) {
+// An expression evaluated with r0 from a to b and r1 from c to d.
+fn value(text: &[u8], code: &[u8], a: i32, b: i32, c: i32, d: i32) {
+    let first = span(a, b);
+    let second = span(c, d);
+    print_case(text, first, second);
+    match expression::assigned_value(code, 0, code.len(), 2, registers(first, second)) {
         Reading::Is(s) => print_span(s),
         Reading::Fault(r) => print_refusal(r),
     }
     print(b"\n");
 }
 
-// A condition branched on.
-fn branch(text: &[u8], code: &[u8], a: Span, b: Span) {
-    print_case(text, a, b);
-    let r = expression::branch_on(code, 0, code.len(), 2, registers(a, b));
+// A condition branched on, with the same registers.
+fn branch(text: &[u8], code: &[u8], a: i32, b: i32, c: i32, d: i32) {
+    let first = span(a, b);
+    let second = span(c, d);
+    print_case(text, first, second);
+    let r = expression::branch_on(code, 0, code.len(), 2, registers(first, second));
     let check = r.check;
     match check {
         Check::Passed => {
@@ -140,29 +144,23 @@ fn condition_place(text: &[u8], code: &[u8]) {
 
 // G's figures.
 fn figures() {
-    value(
-        b"10 / r0",
-        b"\x15\x10\x00\x00\x00\x0a\x11\x00",
-        span(-1, 1),
-        span(0, 0),
-    );
-    value(
-        b"10 / r0",
-        b"\x15\x10\x00\x00\x00\x0a\x11\x00",
-        span(1, 5),
-        span(0, 0),
-    );
+    value(b"10 / r0", b"\x15\x10\x00\x00\x00\x0a\x11\x00", -1, 1, 0, 0);
+    value(b"10 / r0", b"\x15\x10\x00\x00\x00\x0a\x11\x00", 1, 5, 0, 0);
     value(
         b"-7 / 2",
         b"\x15\x10\xff\xff\xff\xf9\x10\x00\x00\x00\x02",
-        span(0, 0),
-        span(0, 0),
+        0,
+        0,
+        0,
+        0,
     );
     value(
         b"lowest / -1",
         b"\x15\x10\x80\x00\x00\x00\x10\xff\xff\xff\xff",
-        span(0, 0),
-        span(0, 0),
+        0,
+        0,
+        0,
+        0,
     );
 }
 
@@ -171,59 +169,33 @@ fn quotients() {
     value(
         b"7 / -2",
         b"\x15\x10\x00\x00\x00\x07\x10\xff\xff\xff\xfe",
-        span(0, 0),
-        span(0, 0),
+        0,
+        0,
+        0,
+        0,
     );
     value(
         b"-7 / -2",
         b"\x15\x10\xff\xff\xff\xf9\x10\xff\xff\xff\xfe",
-        span(0, 0),
-        span(0, 0),
+        0,
+        0,
+        0,
+        0,
     );
-    value(b"r0 / r1", b"\x15\x11\x00\x11\x01", span(-7, 7), span(2, 3));
-    value(
-        b"r0 / r1",
-        b"\x15\x11\x00\x11\x01",
-        span(-7, 7),
-        span(-3, -2),
-    );
-    value(b"r0 / r1", b"\x15\x11\x00\x11\x01", span(1, 2), span(0, 3));
-    value(b"r0 / r1", b"\x15\x11\x00\x11\x01", span(1, 2), span(-3, 0));
+    value(b"r0 / r1", b"\x15\x11\x00\x11\x01", -7, 7, 2, 3);
+    value(b"r0 / r1", b"\x15\x11\x00\x11\x01", -7, 7, -3, -2);
+    value(b"r0 / r1", b"\x15\x11\x00\x11\x01", 1, 2, 0, 3);
+    value(b"r0 / r1", b"\x15\x11\x00\x11\x01", 1, 2, -3, 0);
 }
 
 // Sums, differences and products, in both orders of operands.
 fn sums_and_products() {
-    value(
-        b"r0 + r1",
-        b"\x12\x11\x00\x11\x01",
-        span(1, 2),
-        span(10, 20),
-    );
-    value(
-        b"r0 - r1",
-        b"\x13\x11\x00\x11\x01",
-        span(1, 2),
-        span(10, 20),
-    );
-    value(
-        b"r1 - r0",
-        b"\x13\x11\x01\x11\x00",
-        span(1, 2),
-        span(10, 20),
-    );
-    value(b"r0 - r0", b"\x13\x11\x00\x11\x00", span(1, 2), span(0, 0));
-    value(
-        b"r0 * r1",
-        b"\x14\x11\x00\x11\x01",
-        span(-3, 2),
-        span(-5, 4),
-    );
-    value(
-        b"r0 * r1",
-        b"\x14\x11\x00\x11\x01",
-        span(-3, -2),
-        span(4, 5),
-    );
+    value(b"r0 + r1", b"\x12\x11\x00\x11\x01", 1, 2, 10, 20);
+    value(b"r0 - r1", b"\x13\x11\x00\x11\x01", 1, 2, 10, 20);
+    value(b"r1 - r0", b"\x13\x11\x01\x11\x00", 1, 2, 10, 20);
+    value(b"r0 - r0", b"\x13\x11\x00\x11\x00", 1, 2, 0, 0);
+    value(b"r0 * r1", b"\x14\x11\x00\x11\x01", -3, 2, -5, 4);
+    value(b"r0 * r1", b"\x14\x11\x00\x11\x01", -3, -2, 4, 5);
 }
 
 // The ends of the 32-bit values.
@@ -231,50 +203,66 @@ fn extremes() {
     value(
         b"greatest + 1",
         b"\x12\x10\x7f\xff\xff\xff\x10\x00\x00\x00\x01",
-        span(0, 0),
-        span(0, 0),
+        0,
+        0,
+        0,
+        0,
     );
     value(
         b"greatest + 0",
         b"\x12\x10\x7f\xff\xff\xff\x10\x00\x00\x00\x00",
-        span(0, 0),
-        span(0, 0),
+        0,
+        0,
+        0,
+        0,
     );
     value(
         b"lowest - 1",
         b"\x13\x10\x80\x00\x00\x00\x10\x00\x00\x00\x01",
-        span(0, 0),
-        span(0, 0),
+        0,
+        0,
+        0,
+        0,
     );
     value(
         b"-1 - greatest",
         b"\x13\x10\xff\xff\xff\xff\x10\x7f\xff\xff\xff",
-        span(0, 0),
-        span(0, 0),
+        0,
+        0,
+        0,
+        0,
     );
     value(
         b"lowest * -1",
         b"\x14\x10\x80\x00\x00\x00\x10\xff\xff\xff\xff",
-        span(0, 0),
-        span(0, 0),
+        0,
+        0,
+        0,
+        0,
     );
     value(
         b"65536 * 32768",
         b"\x14\x10\x00\x01\x00\x00\x10\x00\x00\x80\x00",
-        span(0, 0),
-        span(0, 0),
+        0,
+        0,
+        0,
+        0,
     );
     value(
         b"65536 * -32768",
         b"\x14\x10\x00\x01\x00\x00\x10\xff\xff\x80\x00",
-        span(0, 0),
-        span(0, 0),
+        0,
+        0,
+        0,
+        0,
     );
     value(
         b"lowest / 1",
         b"\x15\x10\x80\x00\x00\x00\x10\x00\x00\x00\x01",
-        span(0, 0),
-        span(0, 0),
+        0,
+        0,
+        0,
+        0,
     );
 }
 
@@ -283,59 +271,49 @@ fn nested() {
     value(
         b"2 * r0 + r1 / 3",
         b"\x12\x14\x10\x00\x00\x00\x02\x11\x00\x15\x11\x01\x10\x00\x00\x00\x03",
-        span(1, 2),
-        span(10, 20),
+        1,
+        2,
+        10,
+        20,
     );
     value(
         b"(greatest + 1) - (greatest + 1)",
         b"\x13\x12\x10\x7f\xff\xff\xff\x10\x00\x00\x00\x01\x12\x10\x7f\xff\xff\xff\x10\x00\x00\x00\x01",
-        span(0, 0),
-        span(0, 0),
+        0,
+        0,
+        0,
+        0,
     );
     value(
         b"1 / (r0 - r0)",
         b"\x15\x10\x00\x00\x00\x01\x13\x11\x00\x11\x00",
-        span(1, 2),
-        span(0, 0),
+        1,
+        2,
+        0,
+        0,
     );
 }
 
-// H's figures, and the other comparisons.
+// H's figures, a register beside a constant, true and false.
+fn simple_conditions() {
+    branch(b"r0 == r0", b"\x24\x11\x00\x11\x00", 3, 4, 0, 0);
+    branch(b"r0 < r0", b"\x25\x11\x00\x11\x00", 3, 4, 0, 0);
+    branch(b"r0 < 5", b"\x25\x11\x00\x10\x00\x00\x00\x05", 0, 9, 0, 0);
+    branch(b"5 < r0", b"\x25\x10\x00\x00\x00\x05\x11\x00", 0, 9, 0, 0);
+    branch(b"true", b"\x20", 0, 9, 0, 0);
+    branch(b"false", b"\x21", 0, 9, 0, 0);
+    branch(b"!true", b"\x22\x20", 0, 9, 0, 0);
+}
+
+// Comparisons of a register with one value, and of two registers.
 fn comparisons() {
-    branch(b"r0 == r0", b"\x24\x11\x00\x11\x00", span(3, 4), span(0, 0));
-    branch(b"r0 < r0", b"\x25\x11\x00\x11\x00", span(3, 4), span(0, 0));
-    branch(
-        b"r0 < 5",
-        b"\x25\x11\x00\x10\x00\x00\x00\x05",
-        span(0, 9),
-        span(0, 0),
-    );
-    branch(
-        b"5 < r0",
-        b"\x25\x10\x00\x00\x00\x05\x11\x00",
-        span(0, 9),
-        span(0, 0),
-    );
-    branch(b"true", b"\x20", span(0, 9), span(0, 0));
-    branch(b"false", b"\x21", span(0, 9), span(0, 0));
-    branch(b"!true", b"\x22\x20", span(0, 9), span(0, 0));
-    branch(
-        b"r0 == 3",
-        b"\x24\x11\x00\x10\x00\x00\x00\x03",
-        span(0, 9),
-        span(0, 0),
-    );
-    branch(
-        b"r0 == 3",
-        b"\x24\x11\x00\x10\x00\x00\x00\x03",
-        span(3, 3),
-        span(0, 0),
-    );
-    branch(b"r0 == r1", b"\x24\x11\x00\x11\x01", span(0, 5), span(3, 9));
-    branch(b"r0 == r1", b"\x24\x11\x00\x11\x01", span(0, 2), span(5, 6));
-    branch(b"r0 < r1", b"\x25\x11\x00\x11\x01", span(0, 9), span(2, 5));
-    branch(b"r1 < r0", b"\x25\x11\x01\x11\x00", span(0, 9), span(2, 5));
-    branch(b"r0 < r1", b"\x25\x11\x00\x11\x01", span(5, 9), span(0, 5));
+    branch(b"r0 == 3", b"\x24\x11\x00\x10\x00\x00\x00\x03", 0, 9, 0, 0);
+    branch(b"r0 == 3", b"\x24\x11\x00\x10\x00\x00\x00\x03", 3, 3, 0, 0);
+    branch(b"r0 == r1", b"\x24\x11\x00\x11\x01", 0, 5, 3, 9);
+    branch(b"r0 == r1", b"\x24\x11\x00\x11\x01", 0, 2, 5, 6);
+    branch(b"r0 < r1", b"\x25\x11\x00\x11\x01", 0, 9, 2, 5);
+    branch(b"r1 < r0", b"\x25\x11\x01\x11\x00", 0, 9, 2, 5);
+    branch(b"r0 < r1", b"\x25\x11\x00\x11\x01", 5, 9, 0, 5);
 }
 
 // Negation and "and".
@@ -343,108 +321,144 @@ fn conjunctions() {
     branch(
         b"r0 < 5 && 2 < r0",
         b"\x23\x25\x11\x00\x10\x00\x00\x00\x05\x25\x10\x00\x00\x00\x02\x11\x00",
-        span(0, 9),
-        span(0, 0),
+        0,
+        9,
+        0,
+        0,
     );
     branch(
         b"!(r0 < 5 && 2 < r0)",
         b"\x22\x23\x25\x11\x00\x10\x00\x00\x00\x05\x25\x10\x00\x00\x00\x02\x11\x00",
-        span(0, 9),
-        span(0, 0),
+        0,
+        9,
+        0,
+        0,
     );
     branch(
         b"r0 < 5 && r0 < 5",
         b"\x23\x25\x11\x00\x10\x00\x00\x00\x05\x25\x11\x00\x10\x00\x00\x00\x05",
-        span(0, 9),
-        span(0, 0),
+        0,
+        9,
+        0,
+        0,
     );
     branch(
         b"false && r0 < 5",
         b"\x23\x21\x25\x11\x00\x10\x00\x00\x00\x05",
-        span(0, 9),
-        span(0, 0),
+        0,
+        9,
+        0,
+        0,
     );
     branch(
         b"true && r0 < 5",
         b"\x23\x20\x25\x11\x00\x10\x00\x00\x00\x05",
-        span(0, 9),
-        span(0, 0),
+        0,
+        9,
+        0,
+        0,
     );
-    branch(b"true && true", b"\x23\x20\x20", span(0, 9), span(0, 0));
+    branch(b"true && true", b"\x23\x20\x20", 0, 9, 0, 0);
     branch(
         b"r0 == 3 && r1 < r0",
         b"\x23\x24\x11\x00\x10\x00\x00\x00\x03\x25\x11\x01\x11\x00",
-        span(0, 9),
-        span(0, 9),
+        0,
+        9,
+        0,
+        9,
     );
     branch(
         b"r0 < 5 && r1 < r0",
         b"\x23\x25\x11\x00\x10\x00\x00\x00\x05\x25\x11\x01\x11\x00",
-        span(0, 9),
-        span(0, 9),
+        0,
+        9,
+        0,
+        9,
     );
 }
 
-// Every part is worked out on the registers before narrowing; a side that is no register is not narrowed.
+// Every part is worked out on the registers before narrowing.
 fn faults() {
     branch(
         b"10 / r0 == 1",
         b"\x24\x15\x10\x00\x00\x00\x0a\x11\x00\x10\x00\x00\x00\x01",
-        span(-1, 1),
-        span(0, 0),
+        -1,
+        1,
+        0,
+        0,
     );
     branch(
         b"1 == 10 / r0",
         b"\x24\x10\x00\x00\x00\x01\x15\x10\x00\x00\x00\x0a\x11\x00",
-        span(-1, 1),
-        span(0, 0),
+        -1,
+        1,
+        0,
+        0,
     );
     branch(
         b"false && 10 / r0 < 1",
         b"\x23\x21\x25\x15\x10\x00\x00\x00\x0a\x11\x00\x10\x00\x00\x00\x01",
-        span(0, 1),
-        span(0, 0),
+        0,
+        1,
+        0,
+        0,
     );
     branch(
         b"1 < r0 && 10 / r0 < 20",
         b"\x23\x25\x10\x00\x00\x00\x01\x11\x00\x25\x15\x10\x00\x00\x00\x0a\x11\x00\x10\x00\x00\x00\x14",
-        span(0, 9),
-        span(0, 0),
+        0,
+        9,
+        0,
+        0,
     );
     branch(
         b"!(10 / r0 < 1)",
         b"\x22\x25\x15\x10\x00\x00\x00\x0a\x11\x00\x10\x00\x00\x00\x01",
-        span(0, 1),
-        span(0, 0),
+        0,
+        1,
+        0,
+        0,
     );
+}
+
+// A side that is no register is not narrowed; the ends of the 32-bit values.
+fn sides() {
     branch(
         b"r0 + 1 < 5",
         b"\x25\x12\x11\x00\x10\x00\x00\x00\x01\x10\x00\x00\x00\x05",
-        span(0, 9),
-        span(0, 0),
+        0,
+        9,
+        0,
+        0,
     );
     branch(
         b"r0 < lowest",
         b"\x25\x11\x00\x10\x80\x00\x00\x00",
-        span(-2147483648, 0),
-        span(0, 0),
+        -2147483648,
+        0,
+        0,
+        0,
     );
     branch(
         b"greatest < r0",
         b"\x25\x10\x7f\xff\xff\xff\x11\x00",
-        span(0, 2147483647),
-        span(0, 0),
+        0,
+        2147483647,
+        0,
+        0,
     );
     branch(
         b"r0 < greatest",
         b"\x25\x11\x00\x10\x7f\xff\xff\xff",
-        span(-2147483648, 2147483647),
-        span(0, 0),
+        -2147483648,
+        2147483647,
+        0,
+        0,
     );
 }
 
-// Expressions as they are read with two registers.
-fn expressions() {
+// Leaves of an expression as they are read with two registers.
+fn leaves() {
     place(b"constant", b"\x10\x00\x00\x00\x07");
     place(b"constant cut short", b"\x10\x00\x00\x00");
     place(b"register 1 of 2", b"\x11\x01");
@@ -453,6 +467,10 @@ fn expressions() {
     place(b"no bytes", b"");
     place(b"code 15", b"\x0f");
     place(b"code 22", b"\x16");
+}
+
+// Operands missing, of the wrong kind and left over, and nesting.
+fn operands() {
     place(b"a condition for an operand", b"\x20");
     place(b"plus without its right operand", b"\x12\x11\x00");
     place(
@@ -476,7 +494,7 @@ fn expressions() {
 }
 
 // Conditions as they are read with two registers.
-fn conditions() {
+fn condition_codes() {
     condition_place(b"true", b"\x20");
     condition_place(b"false", b"\x21");
     condition_place(b"an operand for a condition", b"\x10\x00\x00\x00\x01");
@@ -485,6 +503,10 @@ fn conditions() {
     condition_place(b"not without its operand", b"\x22");
     condition_place(b"and without its right operand", b"\x23\x20");
     condition_place(b"r0 == r1", b"\x24\x11\x00\x11\x01");
+}
+
+// Operands of conditions, bytes left over, and nesting.
+fn condition_operands() {
     condition_place(b"r0 < r7 of 2", b"\x25\x11\x00\x11\x07");
     condition_place(b"r7 < r0 of 2", b"\x25\x11\x07\x11\x00");
     condition_place(b"r0 < a condition", b"\x25\x11\x00\x20");
@@ -513,9 +535,13 @@ fn main() {
     sums_and_products();
     extremes();
     nested();
+    simple_conditions();
     comparisons();
     conjunctions();
     faults();
-    expressions();
-    conditions();
+    sides();
+    leaves();
+    operands();
+    condition_codes();
+    condition_operands();
 }
