@@ -1,2 +1,21 @@
+-- The worked figures, then the laws of the rules from the ground up to demand 3.
 pub mod Compute
 pub mod Worked
+pub mod Base
+pub mod Order
+pub mod Ends
+pub mod Interval
+pub mod Tight
+pub mod Format
+pub mod Expression
+pub mod Narrowing
+pub mod NarrowingSound
+pub mod Event
+pub mod Progress
+pub mod Cover
+pub mod Turn
+pub mod Given
+pub mod Search
+pub mod SearchGood
+pub mod Demands
+pub mod ExampleRun

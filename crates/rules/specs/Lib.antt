@@ -12,3 +12,4 @@ pub mod Search
 pub mod Demands
 pub mod Sheets
 pub mod Worked
+pub mod Examples

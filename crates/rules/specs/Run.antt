@@ -148,8 +148,8 @@ greatestClock (x ∷ xs) = max (x .clock) (greatestClock xs)
 
 -- values on their intervals, one by one
 pub data AllIn : List ℤ → List Interval → Type 0 where
-  nil : AllIn [] []
-  cons : {z : ℤ} {i : Interval} {zs : List ℤ} {is : List Interval} → z ∈ i → AllIn zs is → AllIn (z ∷ zs) (i ∷ is)
+  no-values : AllIn [] []
+  one-value : {z : ℤ} {i : Interval} {zs : List ℤ} {is : List Interval} → z ∈ i → AllIn zs is → AllIn (z ∷ zs) (i ∷ is)
 
 pub data ThreadsStart : List Thread → List RunThread → Type 0 where
   no-more : ThreadsStart [] []

@@ -217,6 +217,10 @@ start g = record {
 unfoldable pub searchFrom : Program → ℕ → End
 searchFrom g slots = search (g .header .budget) g slots (start g ∷ []) unseen 0
 
+-- the states that the search of a program takes
+unfoldable pub statesTaken : Program → ℕ → List State
+statesTaken g slots = if eqb slots 0 then [] else takes (g .header .budget) g slots (start g ∷ []) unseen
+
 -- ---- "five numbers: refusal (0 if accepted), place, steps, low, high"
 
 pub record Answer : Type 0 where

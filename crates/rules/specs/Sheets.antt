@@ -65,6 +65,12 @@ constant n = 16 ∷ four n
 abbrev pub reg : ℕ → Bytes
 reg r = 17 ∷ r ∷ []
 
+abbrev pub plus : Bytes → Bytes → Bytes
+plus a b = 18 ∷ a ++ b
+
+abbrev pub times : Bytes → Bytes → Bytes
+times a b = 20 ∷ a ++ b
+
 abbrev pub equal : Bytes → Bytes → Bytes
 equal a b = 36 ∷ a ++ b
 

@@ -9,7 +9,7 @@ use Rattle.rules.specs.Refusal.{Result, value, fault, noReading}
 use Rattle.rules.specs.Interval.{Interval, interval, divide}
 use Rattle.rules.specs.Program.{Arith, Condition}
 use Rattle.rules.specs.Program as P
-use Rattle.rules.specs.Expression.{Regs, evaluate, narrowYes, narrowNo}
+use Rattle.rules.specs.Expression.{Regs, evaluate, allParts, narrowYes, narrowNo}
 use Rattle.rules.specs.Format.{Bytes}
 use Rattle.rules.specs.Search.{Answer, five, answer}
 use Rattle.rules.specs.Sheets.{header, locks, thread, register, halt, skip, branch, lock, unlock, constant, reg, equal, less}
@@ -20,12 +20,15 @@ pub data Fact : Type 0 where
   gives : Bytes → ℕ → Answer → Fact
   -- an expression on registers comes to an interval, or to a refusal
   evaluates : Arith → Regs → Result Interval → Fact
+  -- every part of a condition on registers has a reading, or some part gives a refusal
+  checks : Condition → Regs → Result (Unit {0}) → Fact
   -- a condition on registers keeps these for yes, and those for no
   narrows : Condition → Regs → Option Regs → Option Regs → Fact
 
 abbrev pub Holds : Fact → Type 0
 Holds (gives s n a) = answer s n ≡ a
 Holds (evaluates e rs r) = evaluate e rs ≡ r
+Holds (checks c rs r) = allParts c rs ≡ r
 Holds (narrows c rs y n) = _≡_ {A = Option Regs × Option Regs} (narrowYes c rs, narrowNo c rs) (y, n)
 
 -- ---- the sheets. "Unless said: limit 10, budget 100, label 0..10, 12,000 numbers."

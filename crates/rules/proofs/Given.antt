@@ -1,0 +1,143 @@
+-- Which refusals a search gives, and at which place: 10 at a statement, 11 to 14 at place 0, no other.
+use mathlib.Core.Path.{_≡_, refl, sym, subst}
+use mathlib.Core.Option.{Option}
+use mathlib.Core.List.{List, [], _∷_, _++_}
+use Prim.Native.Nat.{ℕ, zero, suc, _+_, max}
+use lib.Dec.{leb, ltb}
+use lib.ListN.{length}
+use Rattle.rules.specs.Base.{if_then_else_, all}
+use Rattle.rules.specs.Refusal.{Refusal, noReading, stuck, pastLimit, outOfSteps, outOfRoom, Result, value, fault, onBoth}
+use Rattle.rules.specs.Constants.{half32}
+use Rattle.rules.specs.Interval.{Interval, Operator, operate, hull, mayDivideByZero, fits, within, combine}
+use Rattle.rules.specs.Program.{Arith, constant, register, operation, Condition, always, never, negation, conjunction, equal, less}
+use Rattle.rules.specs.Program.{Action, halt, skip, assign, branch, store, load, unlock, lock, Program}
+use Rattle.rules.specs.Expression.{Regs, evaluate, allParts, narrowYes, narrowNo}
+use Rattle.rules.specs.Search.{State, ThreadState, Live, Next, unread, states, fromValue, branches, effect, Turn, refused, ended, follow, before, events, turnBound, greatestLow, waits, turnOf, turn, liveFrom, Window, Step, stop, goOn, afterTurn, searchStep, End, fails, finds, resume, search}
+use Rattle.rules.proofs.Base.{if-ind}
+
+-- arithmetic has one fault
+abbrev pub NoReadingOnly : {A : Type 0} → Result A → Type 0
+NoReadingOnly (value a) = Unit {0}
+NoReadingOnly (fault r) = r ≡ noReading
+
+both-no-reading : {A B C : Type 0} (f : A → B → Result C) → ((a : A) (b : B) → NoReadingOnly (f a b)) → (x : Result A) (y : Result B)
+    → NoReadingOnly x → NoReadingOnly y → NoReadingOnly (onBoth f x y)
+unfolding onBoth
+both-no-reading f k (fault r) y h l = h
+both-no-reading f k (value a) (fault r) h l = l
+both-no-reading f k (value a) (value b) h l = k a b
+
+combine-no-reading : (n : ℕ) (o : Operator) (i j : Interval) → NoReadingOnly (combine n o i j)
+unfolding combine within
+combine-no-reading n o i j =
+    let k = hull (operate o) i j in
+    if-ind (mayDivideByZero o j) (fault noReading) (within n k) NoReadingOnly (λ _. refl) (λ _. if-ind (fits n k) (value k) (fault noReading) NoReadingOnly (λ _. tt) (λ _. refl))
+
+pub evaluate-no-reading : (a : Arith) (rs : Regs) → NoReadingOnly (evaluate a rs)
+unfolding evaluate
+evaluate-no-reading (constant z) rs = tt
+evaluate-no-reading (register r) rs = tt
+evaluate-no-reading (operation o a b) rs =
+    both-no-reading (combine half32 o) (combine-no-reading half32 o) (evaluate a rs) (evaluate b rs) (evaluate-no-reading a rs) (evaluate-no-reading b rs)
+
+pub parts-no-reading : (c : Condition) (rs : Regs) → NoReadingOnly (allParts c rs)
+unfolding allParts
+parts-no-reading always rs = tt
+parts-no-reading never rs = tt
+parts-no-reading (negation c) rs = parts-no-reading c rs
+parts-no-reading (conjunction c d) rs = both-no-reading _ (λ _ _. tt) (allParts c rs) (allParts d rs) (parts-no-reading c rs) (parts-no-reading d rs)
+parts-no-reading (equal a b) rs = both-no-reading _ (λ _ _. tt) (evaluate a rs) (evaluate b rs) (evaluate-no-reading a rs) (evaluate-no-reading b rs)
+parts-no-reading (less a b) rs = both-no-reading _ (λ _ _. tt) (evaluate a rs) (evaluate b rs) (evaluate-no-reading a rs) (evaluate-no-reading b rs)
+
+-- 10 at a statement; 11 to 14 at place 0; no other
+pub data Given : Refusal → ℕ → Type 0 where
+  unreadable : (p : ℕ) → Given noReading p
+  is-stuck : Given stuck 0
+  past-limit : Given pastLimit 0
+  no-steps : Given outOfSteps 0
+  no-room : Given outOfRoom 0
+
+abbrev GivenNext : Next → Type 0
+GivenNext (unread r) = r ≡ noReading
+GivenNext (states xs) = Unit {0}
+
+abbrev GivenTurn : Turn → Type 0
+GivenTurn (refused r p) = Given r p
+GivenTurn (ended a b) = Unit {0}
+GivenTurn (follow xs) = Unit {0}
+
+value-given : {A : Type 0} (f : A → State) (o : Result A) → NoReadingOnly o → GivenNext (fromValue f o)
+unfolding fromValue
+value-given f (fault r) h = h
+value-given f (value a) h = tt
+
+branches-given : (f g : Regs → State) (o : Result (Unit {0})) (y n : Option Regs) → NoReadingOnly o → GivenNext (branches f g o y n)
+unfolding branches
+branches-given f g (fault r) y n h = h
+branches-given f g (value u) y n h = tt
+
+effect-given : (s : State) (t : ℕ) (x : ThreadState) (low high : ℕ) (a : Action) → GivenNext (effect s t x low high a)
+unfolding effect
+effect-given s t x low high halt = tt
+effect-given s t x low high skip = tt
+effect-given s t x low high (assign r a) = value-given _ (evaluate a (x .regs)) (evaluate-no-reading a (x .regs))
+effect-given s t x low high (branch to c) = branches-given _ _ (allParts c (x .regs)) (narrowYes c (x .regs)) (narrowNo c (x .regs)) (parts-no-reading c (x .regs))
+effect-given s t x low high (store r v) = tt
+effect-given s t x low high (load r v) = tt
+effect-given s t x low high (unlock l) = tt
+effect-given s t x low high (lock l) = tt
+
+before-given : (p : ℕ) (n : Next) (t : Turn) → GivenNext n → GivenTurn t → GivenTurn (before p n t)
+unfolding before
+before-given p (unread r) t h k = subst (λ (q : Refusal). Given q p) (sym h) (unreadable p)
+before-given p (states xs) (refused r q) h k = k
+before-given p (states xs) (ended a b) h k = tt
+before-given p (states xs) (follow ys) h k = tt
+
+events-given : (s : State) (latest bound : ℕ) (vs : List Live) → GivenTurn (events s latest bound vs)
+unfolding events
+events-given s latest bound [] = tt
+events-given s latest bound (v ∷ vs) =
+    let from = max latest (v .here .low + v .statement .least) in
+    let n = effect s (v .thread) (v .here) from bound (v .statement .action) in
+    let h = events-given s latest bound vs in
+    if-ind (leb from bound) (before (v .statement .place) n (events s latest bound vs)) (events s latest bound vs) GivenTurn
+    (λ _. before-given (v .statement .place) n (events s latest bound vs) (effect-given s (v .thread) (v .here) from bound (v .statement .action)) h) (λ _. h)
+
+turn-given : (g : Program) (s : State) (vs : List Live) → GivenTurn (turnOf g s vs)
+unfolding turnOf
+turn-given g s [] = tt
+turn-given g s (v ∷ vs) =
+    let bound = turnBound v vs in
+    let es = events s (greatestLow (s .threads)) bound (v ∷ vs) in
+    if-ind (all (waits (s .owners)) (v ∷ vs)) (refused stuck 0) (if ltb (g .header .limit) bound then refused pastLimit 0 else es) GivenTurn (λ _. is-stuck)
+    (λ _. if-ind (ltb (g .header .limit) bound) (refused pastLimit 0) es GivenTurn (λ _. past-limit) (λ _. events-given s (greatestLow (s .threads)) bound (v ∷ vs)))
+
+abbrev GivenStep : Step → Type 0
+GivenStep (stop r p) = Given r p
+GivenStep (goOn xs w) = Unit {0}
+
+step-given : (slots : ℕ) (xs : List State) (w : Window) (t : Turn) → GivenTurn t → GivenStep (afterTurn slots xs w t)
+unfolding afterTurn
+step-given slots xs w (refused r p) h = h
+step-given slots xs w (ended a b) h = tt
+step-given slots xs w (follow new) h =
+    if-ind (leb (length xs + length new) slots) (goOn (new ++ xs) w) (stop outOfRoom 0) GivenStep (λ _. tt) (λ _. no-room)
+
+abbrev pub GivenEnd : End → Type 0
+GivenEnd (fails r p n) = Given r p
+GivenEnd (finds n w) = Unit {0}
+
+resume-given : (n : ℕ) (k : List State → Window → End) → ((ys : List State) (w : Window) → GivenEnd (k ys w)) → (t : Step) → GivenStep t → GivenEnd (resume n k t)
+unfolding resume
+resume-given n k f (stop r p) h = h
+resume-given n k f (goOn ys w) h = f ys w
+
+pub search-given : (left : ℕ) (g : Program) (slots : ℕ) (xs : List State) (w : Window) (n : ℕ) → GivenEnd (search left g slots xs w n)
+unfolding search searchStep turn
+search-given zero g slots [] w n = tt
+search-given zero g slots (x ∷ xs) w n = no-steps
+search-given (suc left) g slots [] w n = tt
+search-given (suc left) g slots (x ∷ xs) w n =
+    resume-given (suc n) (λ ys w′. search left g slots ys w′ (suc n)) (λ ys w′. search-given left g slots ys w′ (suc n)) (searchStep g slots x xs w)
+    (step-given slots xs w (turn g x) (turn-given g x (liveFrom 0 (g .threads) (x .threads))))

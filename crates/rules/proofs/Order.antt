@@ -1,0 +1,60 @@
+-- The order of ℤ, and the lesser and greater of two. `_≤ℤ_` is a record, so that the two numbers are inferred from a fact.
+use mathlib.Core.Bool.{Bool, true, false, not}
+use native.Mathlib.Nat.{le-trans, le-of-lt}
+use lib.Dec.{T, leb→le, le→leb, nleb→lt}
+use lib.IntN.{ℤ, pos, negsuc}
+use lib.Signed.{leZ, _≤ℤ_, ≤ℤ-refl, leZ-yes}
+use Rattle.rules.specs.Interval.{minZ, maxZ}
+use Rattle.rules.proofs.Base.{if-ind}
+
+trans′ : (a b c : ℤ) → T (leZ a b) → T (leZ b c) → T (leZ a c)
+trans′ (pos a) (pos b) (pos c) h k = le→leb a c (le-trans (leb→le a b h) (leb→le b c k))
+trans′ (pos a) (pos b) (negsuc c) h k = k
+trans′ (pos a) (negsuc b) c h k = absurd h
+trans′ (negsuc a) (pos b) (pos c) h k = tt
+trans′ (negsuc a) (pos b) (negsuc c) h k = absurd k
+trans′ (negsuc a) (negsuc b) (pos c) h k = tt
+trans′ (negsuc a) (negsuc b) (negsuc c) h k = le→leb c a (le-trans (leb→le c b k) (leb→le b a h))
+
+pub ≤ℤ-trans : {a b c : ℤ} → a ≤ℤ b → b ≤ℤ c → a ≤ℤ c
+≤ℤ-trans {a} {b} {c} h k = record { le = trans′ a b c (h .le) (k .le) }
+
+other′ : (a b : ℤ) → T (not (leZ a b)) → T (leZ b a)
+other′ (pos a) (pos b) t = le→leb b a (le-of-lt (nleb→lt a b t))
+other′ (pos a) (negsuc b) t = tt
+other′ (negsuc a) (pos b) t = t
+other′ (negsuc a) (negsuc b) t = le→leb a b (le-of-lt (nleb→lt b a t))
+
+-- the test failed
+pub leZ-no : (a b : ℤ) → T (not (leZ a b)) → b ≤ℤ a
+leZ-no a b t = record { le = other′ a b t }
+
+pub min-left : (a b : ℤ) → minZ a b ≤ℤ a
+unfolding minZ
+min-left a b = if-ind (leZ a b) a b (λ z. z ≤ℤ a) (λ t. ≤ℤ-refl a) (λ t. leZ-no a b t)
+
+pub min-right : (a b : ℤ) → minZ a b ≤ℤ b
+unfolding minZ
+min-right a b = if-ind (leZ a b) a b (λ z. z ≤ℤ b) (λ t. leZ-yes t) (λ t. ≤ℤ-refl b)
+
+pub max-left : (a b : ℤ) → a ≤ℤ maxZ a b
+unfolding maxZ
+max-left a b = if-ind (leZ a b) b a (λ z. a ≤ℤ z) (λ t. leZ-yes t) (λ t. ≤ℤ-refl a)
+
+pub max-right : (a b : ℤ) → b ≤ℤ maxZ a b
+unfolding maxZ
+max-right a b = if-ind (leZ a b) b a (λ z. b ≤ℤ z) (λ t. ≤ℤ-refl b) (λ t. leZ-no a b t)
+
+pub min-above : {c a b : ℤ} → c ≤ℤ a → c ≤ℤ b → c ≤ℤ minZ a b
+unfolding minZ
+min-above {c} {a} {b} h k = if-ind (leZ a b) a b (λ z. c ≤ℤ z) (λ t. h) (λ t. k)
+
+pub max-below : {c a b : ℤ} → a ≤ℤ c → b ≤ℤ c → maxZ a b ≤ℤ c
+unfolding maxZ
+max-below {c} {a} {b} h k = if-ind (leZ a b) b a (λ z. z ≤ℤ c) (λ t. k) (λ t. h)
+
+pub min-mono : {a b c d : ℤ} → a ≤ℤ c → b ≤ℤ d → minZ a b ≤ℤ minZ c d
+min-mono {a} {b} h k = min-above (≤ℤ-trans (min-left a b) h) (≤ℤ-trans (min-right a b) k)
+
+pub max-mono : {a b c d : ℤ} → a ≤ℤ c → b ≤ℤ d → maxZ a b ≤ℤ maxZ c d
+max-mono {c} {d} h k = max-below (≤ℤ-trans h (max-left c d)) (≤ℤ-trans k (max-right c d))

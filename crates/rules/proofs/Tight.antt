@@ -1,0 +1,115 @@
+-- Interval arithmetic is no wider than it must be, for every width: each end of a result is reached, and a refusal comes only
+-- where some pair of values on the intervals has no result.
+use mathlib.Core.Path.{_≡_, refl, subst}
+use mathlib.Core.Bool.{Bool, true, false, not, _&&_}
+use Prim.Native.Nat.{ℕ}
+use lib.Dec.{T}
+use lib.IntN.{ℤ, pos}
+use lib.Signed.{leZ, leZ-yes}
+use Rattle.rules.specs.Base.{if_then_else_}
+use Rattle.rules.specs.Refusal.{Refusal, noReading, Result, value, fault}
+use Rattle.rules.specs.Interval.{Interval, _∈_, minZ, maxZ, eqZ, inRange, Operator, plus, minus, times, divide, operate, dividesByZero, calculate, hull, holdsZero, mayDivideByZero, fits, within, combine}
+use Rattle.rules.proofs.Base.{if-ind, and-left, and-right, not-both}
+use Rattle.rules.proofs.Interval.{Ordered, low-in, high-in}
+
+-- ---- the ends are reached
+
+-- some values on the intervals give z
+pub record Reached (f : ℤ → ℤ → ℤ) (i j : Interval) (z : ℤ) : Type 0 where
+  pub left : ℤ
+  pub right : ℤ
+  pub left-in : left ∈ i
+  pub right-in : right ∈ j
+  pub gives : f left right ≡ z
+
+module _ (f : ℤ → ℤ → ℤ) (i j : Interval) (oi : Ordered i) (oj : Ordered j) where
+  at-values : (x y : ℤ) → x ∈ i → y ∈ j → Reached f i j (f x y)
+  at-values x y hx hy = record { left = x; right = y; left-in = hx; right-in = hy; gives = refl }
+
+  min-reached : (a b : ℤ) → Reached f i j a → Reached f i j b → Reached f i j (minZ a b)
+  unfolding minZ
+  min-reached a b h k = if-ind (leZ a b) a b (Reached f i j) (λ _. h) (λ _. k)
+
+  max-reached : (a b : ℤ) → Reached f i j a → Reached f i j b → Reached f i j (maxZ a b)
+  unfolding maxZ
+  max-reached a b h k = if-ind (leZ a b) b a (Reached f i j) (λ _. k) (λ _. h)
+
+  low-low : Reached f i j (f (i .low) (j .low))
+  low-low = at-values (i .low) (j .low) (low-in i oi) (low-in j oj)
+
+  low-high : Reached f i j (f (i .low) (j .high))
+  low-high = at-values (i .low) (j .high) (low-in i oi) (high-in j oj)
+
+  high-low : Reached f i j (f (i .high) (j .low))
+  high-low = at-values (i .high) (j .low) (high-in i oi) (low-in j oj)
+
+  high-high : Reached f i j (f (i .high) (j .high))
+  high-high = at-values (i .high) (j .high) (high-in i oi) (high-in j oj)
+
+  pub hull-low-reached : Reached f i j (hull f i j .low)
+  unfolding hull
+  hull-low-reached = min-reached _ _ (min-reached _ _ low-low low-high) (min-reached _ _ high-low high-high)
+
+  pub hull-high-reached : Reached f i j (hull f i j .high)
+  unfolding hull
+  hull-high-reached = max-reached _ _ (max-reached _ _ low-low low-high) (max-reached _ _ high-low high-high)
+
+-- ---- a refusal only where some pair of values has no result
+
+pub record NoResult (n : ℕ) (o : Operator) (i j : Interval) (r : Refusal) : Type 0 where
+  pub left : ℤ
+  pub right : ℤ
+  pub left-in : left ∈ i
+  pub right-in : right ∈ j
+  pub lacks : calculate n o left right ≡ fault r
+
+out-of-range : (n : ℕ) (o : Operator) (x y z : ℤ) → operate o x y ≡ z → T (not (inRange n z)) → calculate n o x y ≡ fault noReading
+unfolding calculate
+out-of-range n o x y z e u =
+    if-ind (dividesByZero o y) (fault noReading) (if inRange n (operate o x y) then value (operate o x y) else fault noReading) (λ r. r ≡ fault noReading)
+    (λ _. refl)
+    (λ _. if-ind (inRange n (operate o x y)) (value (operate o x y)) (fault noReading) (λ r. r ≡ fault noReading)
+    (λ t. absurd (not-both (inRange n z) u (subst (λ (w : ℤ). T (inRange n w)) e t))) (λ _. refl))
+
+by-zero : (n : ℕ) (o : Operator) (j : Interval) (x : ℤ) → T (mayDivideByZero o j) → (pos 0 ∈ j) × (calculate n o x (pos 0) ≡ fault noReading)
+unfolding mayDivideByZero holdsZero calculate dividesByZero eqZ
+by-zero n plus j x t = absurd t
+by-zero n minus j x t = absurd t
+by-zero n times j x t = absurd t
+by-zero n divide j x t = (
+  record {
+    low = leZ-yes (and-left (leZ (j .low) (pos 0)) (leZ (pos 0) (j .high)) t);
+    high = leZ-yes (and-right (leZ (j .low) (pos 0)) (leZ (pos 0) (j .high)) t);
+  },
+  refl,
+)
+
+-- one of two tests failed
+one-failed : (a b : Bool) {P : Type 0} → T (not (a && b)) → (T (not a) → P) → (T (not b) → P) → P
+one-failed true b t f g = g t
+one-failed false b t f g = f tt
+
+no-result-at : (n : ℕ) (o : Operator) (i j : Interval) (z : ℤ) → Reached (operate o) i j z → T (not (inRange n z)) → NoResult n o i j noReading
+no-result-at n o i j z h u = record {
+  left = h .left;
+  right = h .right;
+  left-in = h .left-in;
+  right-in = h .right-in;
+  lacks = out-of-range n o (h .left) (h .right) z (h .gives) u;
+}
+
+-- what the result of an operator on two intervals is known to be: its ends are reached, or some pair has no result
+abbrev pub Exact : ℕ → Operator → Interval → Interval → Result Interval → Type 0
+Exact n o i j (value k) = Reached (operate o) i j (k .low) × Reached (operate o) i j (k .high)
+Exact n o i j (fault r) = NoResult n o i j r
+
+pub combine-exact : (n : ℕ) (o : Operator) (i j : Interval) → Ordered i → Ordered j → Exact n o i j (combine n o i j)
+unfolding combine within fits
+combine-exact n o i j oi oj =
+    let k = hull (operate o) i j in
+    let l = hull-low-reached (operate o) i j oi oj in
+    let h = hull-high-reached (operate o) i j oi oj in
+    if-ind (mayDivideByZero o j) (fault noReading) (within n k) (Exact n o i j)
+    (λ t. let z = by-zero n o j (i .low) t in record { left = i .low; right = pos 0; left-in = low-in i oi; right-in = z .0; lacks = z .1 })
+    (λ t. if-ind (fits n k) (value k) (fault noReading) (Exact n o i j) (λ _. (l, h))
+    (λ u. one-failed (inRange n (k .low)) (inRange n (k .high)) u (no-result-at n o i j (k .low) l) (no-result-at n o i j (k .high) h)))
