@@ -1,12 +1,10 @@
-use borrow.Author.Needs.{needs}
+-- `reader_main::put_all` meets its contract. Assumes nothing.
 use mathlib.Core.Path.{_≡_, refl, _∙_}
 use Prim.Native.Nat.{_-_, _≤_}
 use lib.ListN.{length}
+use borrow.Author.Needs.{needs}
 use Rattle.reader_main.proofs.put_all.Statement.{statement}
 use Rattle.reader_main.proofs.put_all.Tie as tie
-use Rattle.reader_main.proofs.put_all.Reads as reads
-use Rattle.reader_main.proofs.put_all.Lts as lts
-use Rattle.reader_main.proofs.put_next.Reads as put-next-reads
 
 abbrev Inv-loop : tie.InvT-loop
 Inv-loop buffer₀ counter₀ buffer counter = (length buffer ≡ length buffer₀) × (counter ≤ 65536)
@@ -14,39 +12,30 @@ Inv-loop buffer₀ counter₀ buffer counter = (length buffer ≡ length buffer�
 abbrev μ-loop : tie.MeasureT-loop
 μ-loop buffer₀ counter₀ buffer counter = 65536 - counter
 
--- src/main.rt:120:5
 loop-holds : tie.Need-loop-holds Inv-loop μ-loop
 loop-holds c = (refl, search needs)
 
--- src/main.rt:121:12
 put-next-requires : tie.Need-put-next-requires Inv-loop μ-loop
 put-next-requires c κs = search needs
 
--- src/main.rt:122:13
 add-counter : tie.Need-add-counter Inv-loop μ-loop
 add-counter c = search needs
 
--- src/main.rt:120:5
 loop-less : tie.Need-loop-less Inv-loop μ-loop
 loop-less c = search needs
 
--- src/main.rt:120:5
 loop-again : tie.Need-loop-again Inv-loop μ-loop
 loop-again c = (c .before .before .before .put-next .kept .0 ∙ c .before .before .before .before .before .before .loop .inv .0, search needs)
 
--- src/main.rt:124:9
 same-length : tie.Need-same-length Inv-loop μ-loop
 same-length c = c .before .before .before .put-next .kept .0 ∙ c .before .before .before .before .before .before .loop .inv .0
 
--- src/main.rt:124:9
 returns : tie.Need-returns Inv-loop μ-loop
 returns c = search needs
 
--- src/main.rt:119:1
 same-length-2 : tie.Need-same-length-2 Inv-loop μ-loop
 same-length-2 c = c .before .loop .inv .0
 
--- src/main.rt:119:1
 returns-2 : tie.Need-returns-2 Inv-loop μ-loop
 returns-2 c = search needs
 

@@ -1,13 +1,8 @@
-use borrow.Author.Needs.{needs}
+-- `reader_main::put_sheet` meets its contract. Assumes nothing.
 use Prim.Native.Nat.{_-_, _≤_}
+use borrow.Author.Needs.{needs}
 use Rattle.reader_main.proofs.put_sheet.Statement.{statement}
 use Rattle.reader_main.proofs.put_sheet.Tie as tie
-use Rattle.reader_main.proofs.put_sheet.Reads as reads
-use Rattle.reader_main.proofs.put_sheet.Lts as lts
-use Rattle.io.proofs.write_all.Reads as write-all-reads
-use Rattle.reader.proofs.read_sheet.Reads as read-sheet-reads
-use Rattle.reader_main.proofs.put_thread.Reads as put-thread-reads
-use Rattle.reader_main.proofs.put_three.Reads as put-three-reads
 
 abbrev Inv-loop : tie.InvT-loop
 Inv-loop sheet x t₀ t4 t = t ≤ 4
@@ -15,71 +10,54 @@ Inv-loop sheet x t₀ t4 t = t ≤ 4
 abbrev μ-loop : tie.MeasureT-loop
 μ-loop sheet x t₀ t4 t = 4 - t
 
--- src/main.rt:85:9
 read-sheet-requires : tie.Need-read-sheet-requires Inv-loop μ-loop
 read-sheet-requires c κs = search needs
 
--- src/main.rt:86:15
 cast-put-three : tie.Need-cast-put-three Inv-loop μ-loop
 cast-put-three c = search needs
 
--- src/main.rt:86:44
 cast-put-three-2 : tie.Need-cast-put-three-2 Inv-loop μ-loop
 cast-put-three-2 c = search needs
 
--- src/main.rt:86:5
 put-three-requires : tie.Need-put-three-requires Inv-loop μ-loop
 put-three-requires c κs = search needs
 
--- src/main.rt:87:15
 cast-put-three-3 : tie.Need-cast-put-three-3 Inv-loop μ-loop
 cast-put-three-3 c = search needs
 
--- src/main.rt:87:34
 cast-put-three-4 : tie.Need-cast-put-three-4 Inv-loop μ-loop
 cast-put-three-4 c = search needs
 
--- src/main.rt:87:56
 cast-put-three-5 : tie.Need-cast-put-three-5 Inv-loop μ-loop
 cast-put-three-5 c = search needs
 
--- src/main.rt:87:5
 put-three-requires-2 : tie.Need-put-three-requires-2 Inv-loop μ-loop
 put-three-requires-2 c κs = search needs
 
--- src/main.rt:88:5
 put-three-requires-3 : tie.Need-put-three-requires-3 Inv-loop μ-loop
 put-three-requires-3 c κs = search needs
 
--- src/main.rt:89:5
 loop-holds : tie.Need-loop-holds Inv-loop μ-loop
 loop-holds c = search needs
 
--- src/main.rt:91:13
 put-thread-requires : tie.Need-put-thread-requires Inv-loop μ-loop
 put-thread-requires c κs = search needs
 
--- src/main.rt:89:9
 add-t : tie.Need-add-t Inv-loop μ-loop
 add-t c = search needs
 
--- src/main.rt:89:5
 loop-less : tie.Need-loop-less Inv-loop μ-loop
 loop-less c = search needs
 
--- src/main.rt:89:5
 loop-again : tie.Need-loop-again Inv-loop μ-loop
 loop-again c = search needs
 
--- src/main.rt:94:22
 slice-aggregate-write-all : tie.Need-slice-aggregate-write-all Inv-loop μ-loop
 slice-aggregate-write-all c = search needs
 
--- src/main.rt:94:5
 write-all-requires : tie.Need-write-all-requires Inv-loop μ-loop
 write-all-requires c κs = search needs
 
--- src/main.rt:84:1
 returns : tie.Need-returns Inv-loop μ-loop
 returns c = search needs
 
