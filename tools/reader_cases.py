@@ -272,8 +272,9 @@ def every_cut():
 
 def random_sheet(rng):
     """A sheet near the rules; mutations make most of the faults."""
-    nlocks, nvars = rng.randrange(4), rng.randrange(4)
-    out = header(rng.randrange(1, 30), rng.randrange(1, 300), 0, rng.randrange(0, 30)) + locks(nlocks)
+    nlocks, nvars = rng.randrange(1, 4), rng.randrange(1, 4)
+    limit = rng.randrange(5, 30)
+    out = header(limit, rng.randrange(1, 300), 0, rng.randrange(0, limit + 1)) + locks(nlocks)
     out += b"".join(variable(rng.randrange(-3, 1), rng.randrange(0, 3)) for _ in range(nvars))
 
     def arith(depth, n):
@@ -293,20 +294,23 @@ def random_sheet(rng):
         part = condition if k == 3 else arith
         return bytes([32 + k]) + part(depth - 1, n) + part(depth - 1, n)
 
+    def name(n):
+        return rng.randrange(max(n, 1)) if rng.random() < 0.98 else n
+
     for _ in range(rng.randrange(1, 5)):
-        n = rng.randrange(4)
+        n = rng.randrange(1, 4)
         out += thread(n) + b"".join(register(rng.randrange(-3, 1), rng.randrange(0, 3)) for _ in range(n))
         size = rng.randrange(1, 6)
         for _ in range(size):
             times = {"least": rng.randrange(1, 4), "greatest": rng.randrange(3, 6)}
             out += rng.choice([
                 lambda: SKIP, lambda: HALT,
-                lambda: assign(rng.randrange(n + 1), arith(rng.randrange(1, 5), n), **times),
-                lambda: branch(rng.randrange(size + 2), condition(rng.randrange(1, 5), n), **times),
-                lambda: pair(4, rng.randrange(n + 1), rng.randrange(nvars + 1), **times),
-                lambda: pair(5, rng.randrange(n + 1), rng.randrange(nvars + 1), **times),
-                lambda: lock(6, rng.randrange(nlocks + 1), **times),
-                lambda: lock(7, rng.randrange(nlocks + 1), **times)])()
+                lambda: assign(name(n), arith(rng.randrange(1, 5), n), **times),
+                lambda: branch(name(size + 1), condition(rng.randrange(1, 5), n), **times),
+                lambda: pair(4, name(n), name(nvars), **times),
+                lambda: pair(5, name(n), name(nvars), **times),
+                lambda: lock(6, name(nlocks), **times),
+                lambda: lock(7, name(nlocks), **times)])()
         out += HALT if rng.random() < 0.95 else b""
     return out
 
