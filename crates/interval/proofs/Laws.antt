@@ -20,7 +20,7 @@ use Rattle.rules.specs.Interval.{inRange, minZ, maxZ, quotient}
 abbrev pub wide : ℤ → ℤ
 wide z = toZ w64 (ofZ w64 (toZ w32 (ofZ w32 z)))
 
-wide-is : {z : ℤ} → SFits w32 z → wide z ≡ z
+pub wide-is : {z : ℤ} → SFits w32 z → wide z ≡ z
 wide-is h = ap (λ (y : ℤ). toZ w64 (ofZ w64 y)) (toZ-ofZ h) ∙ toZ-ofZ (sfits-widen {w′ = w64} tt h)
 
 pub casts : (z : ℤ) → SFits w32 z → SFits w64 (toZ w32 (ofZ w32 z))

@@ -1,0 +1,2 @@
+-- What the proofs of several functions of `comparison` cite.
+pub mod Laws

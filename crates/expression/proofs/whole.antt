@@ -1,0 +1,2 @@
+-- What callers of `whole` cite.
+pub mod Laws
