@@ -1,0 +1,7 @@
+-- The reader's laws: the loops, the whole sheet, and what later layers may rely on of a sheet that reads (`Facts`).
+pub mod Loops
+pub mod Sheet
+pub mod IfAt
+pub mod StatementFacts
+pub mod ThreadFacts
+pub mod Facts

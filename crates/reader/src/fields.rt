@@ -1,0 +1,172 @@
+// Fields: a byte, a header, a length, and the fields of fixed length.
+// Every function is given the whole sheet s and the place of a field in it.
+use crate::outcome::End;
+use expression::num16_at;
+use expression::num32_at;
+use refusal::Refusal;
+ghost use mathlib.Core.Path.{_≡_};
+ghost use mathlib.Core.Bool.{true};
+ghost use Prim.Native.Nat.{_+_, _≤_, _<_};
+ghost use lib.Dec.{leb};
+ghost use lib.ListN.{length};
+ghost use Rattle.rules.specs.Constants.{mostRegisters};
+ghost use Rattle.rules.specs.Format.{got, byte, num16, hasHead, hasBody, due, sized, headerFits, readHeader, readLocks};
+ghost use Rattle.reader.specs.Outcome.{endOf};
+
+// Locks, and a thread's registers: at most 8.
+const MOST_NAMES: usize = 8;
+
+const GREATEST_LIMIT: u32 = 1000000;
+
+const GREATEST_BUDGET: u32 = 10000000;
+
+fn wide(x: u8) -> usize
+    ensures { λ r. ⌜ (r ≡ x) × (r < 256) ⌝ }
+{
+    x as usize
+}
+
+// The byte at p, or 0 past the sheet's end.
+pub fn byte_at(s: &[u8], p: usize) -> usize
+    ensures { λ r. ⌜ (r ≡ byte (now (s .entry)) p) × (r < 256) ⌝ }
+{
+    if p < s.len() {
+        return wide(s[p]);
+    }
+    0
+}
+
+// ---- the header and the length of a field
+
+pub fn has_head(s: &[u8], at: usize) -> bool
+    ensures { λ r. ⌜ r ≡ hasHead (now (s .entry)) at ⌝ }
+{
+    if s.len() < 3 {
+        return false;
+    }
+    at <= s.len() - 3
+}
+
+pub fn length_at(s: &[u8], at: usize) -> usize
+    requires { ⌜ at + 3 ≤ length (now s) ⌝ }
+    ensures { λ r. ⌜ (r ≡ num16 (now (s .entry)) (at + 1)) × (r < 65536) ⌝ }
+{
+    num16_at(s, at + 1) as usize
+}
+
+pub fn has_body(s: &[u8], at: usize) -> bool
+    requires { ⌜ at + 3 ≤ length (now s) ⌝ }
+    ensures { λ r. ⌜ r ≡ hasBody (now (s .entry)) at ⌝ }
+{
+    let n = length_at(s, at);
+    at + 3 + n <= s.len()
+}
+
+// The field at a place has the tag that is due.
+pub fn due_at(s: &[u8], at: usize, tag: u8) -> End
+    ensures { λ r. ⌜ r ≡ endOf (due tag (now (s .entry)) at (got at at)) ⌝ }
+{
+    if has_head(s, at) {
+        if s[at] == tag {
+            return End::At(at);
+        }
+        return End::Refused(Refusal::OutOfTurn, at);
+    }
+    End::Refused(Refusal::Short, at)
+}
+
+// A field whose body is to be n bytes long: the body first, then its length.
+pub fn fixed_end(s: &[u8], at: usize, n: usize) -> End
+    requires { ⌜ (at + 3 ≤ length (now s)) × (n < 65536) ⌝ }
+    ensures { λ r. ⌜ r ≡ endOf (sized (now (s .entry)) at n true n) ⌝ }
+{
+    let m = length_at(s, at);
+    if s.len() < at + 3 + m {
+        return End::Refused(Refusal::Short, at);
+    }
+    if m == n {
+        return End::At(at + 3 + n);
+    }
+    End::Refused(Refusal::BadLength, at)
+}
+
+// ---- tag 1
+
+fn header_fits(limit: u32, budget: u32, low: u32, high: u32) -> bool
+    ensures { λ r. ⌜ r ≡ headerFits limit budget low high ⌝ }
+{
+    if limit < 1 {
+        return false;
+    }
+    if GREATEST_LIMIT < limit {
+        return false;
+    }
+    if budget < 1 {
+        return false;
+    }
+    if GREATEST_BUDGET < budget {
+        return false;
+    }
+    if high < low {
+        return false;
+    }
+    high <= limit
+}
+
+pub fn header_end(s: &[u8]) -> End
+    ensures { λ r. ⌜ r ≡ endOf (readHeader (now (s .entry))) ⌝ }
+{
+    let d = due_at(s, 0, 1);
+    let End::At(_) = d else {
+        return d;
+    };
+    let x = fixed_end(s, 0, 16);
+    let End::At(q) = x else {
+        return x;
+    };
+    let limit = num32_at(s, 3);
+    let budget = num32_at(s, 7);
+    let low = num32_at(s, 11);
+    let high = num32_at(s, 15);
+    if header_fits(limit, budget, low, high) {
+        return End::At(q);
+    }
+    End::Refused(Refusal::OffRange, 0)
+}
+
+// ---- tags 3 and 4: one byte, a number of names
+
+pub fn names_end(s: &[u8], at: usize) -> End
+    requires { ⌜ at + 3 ≤ length (now s) ⌝ }
+    ensures { λ r. ⌜ r ≡ endOf (sized (now (s .entry)) at 1 (leb (byte (now (s .entry)) (at + 3)) mostRegisters) (byte (now (s .entry)) (at + 3))) ⌝ }
+{
+    let x = fixed_end(s, at, 1);
+    let End::At(q) = x else {
+        return x;
+    };
+    let n = wide(s[at + 3]);
+    if n <= MOST_NAMES {
+        return End::At(q);
+    }
+    End::Refused(Refusal::OffRange, at)
+}
+
+pub fn locks_end(s: &[u8], at: usize) -> End
+    ensures { λ r. ⌜ r ≡ endOf (readLocks (now (s .entry)) at) ⌝ }
+{
+    let d = due_at(s, at, 3);
+    let End::At(_) = d else {
+        return d;
+    };
+    names_end(s, at)
+}
+
+// The field that opens a thread, whose tag is known.
+pub fn open_end(s: &[u8], at: usize) -> End
+    ensures { λ r. ⌜ r ≡ endOf (sized (now (s .entry)) at 1 (leb (byte (now (s .entry)) (at + 3)) mostRegisters) (byte (now (s .entry)) (at + 3))) ⌝ }
+{
+    if has_head(s, at) {
+        return names_end(s, at);
+    }
+    End::Refused(Refusal::Short, at)
+}
