@@ -1,0 +1,9 @@
+-- Laws that the proofs of this crate, and of those above it, cite.
+pub mod Writing
+pub mod Timed
+pub mod Round
+pub mod Shape
+pub mod Stack
+pub mod Ownership
+pub mod Room
+pub mod Initial
