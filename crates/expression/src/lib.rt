@@ -3,25 +3,19 @@
 pub mod number; // unsigned and signed numbers of the sheet
 pub mod kind; // what the code at a place says
 pub mod reading; // the place behind an expression, or the refusal
-
-pub use number::int32_at;
-
 pub mod evaluation; // the interval of an expression, or its fault
 pub mod parts; // the first fault of all parts of a condition, or none
-
-pub use evaluation::Evaluated;
-pub use evaluation::evaluate;
-
 pub mod comparison; // registers narrowed by a comparison
 pub mod narrowing; // registers narrowed by a condition, yes and no
+pub mod whole; // what an assignment and a branch ask
 
 pub use comparison::Narrowed;
+pub use evaluation::Evaluated;
+pub use evaluation::evaluate;
 pub use narrowing::NarrowedAt;
 pub use narrowing::narrow_no;
 pub use narrowing::narrow_yes;
-
-pub mod whole; // what an assignment and a branch ask
-
+pub use number::int32_at;
 pub use number::num16_at;
 pub use number::num32_at;
 pub use parts::Check;

@@ -113,12 +113,12 @@ fn join_regs(a: [Span; 8], b: [Span; 8]) -> [Span; 8]
     ]
 }
 
-// The join of two results, an empty one ignored.
-fn join_both(a: NarrowedAt, b: NarrowedAt) -> NarrowedAt
+// The join of two results, an empty one ignored; joined is the join of their registers.
+fn join_both(a: NarrowedAt, b: NarrowedAt, joined: [Span; 8]) -> NarrowedAt
+    requires { ⌜ ((n : ℕ) → regsOf n joined ≡ joinRegs (regsOf n (a .regs)) (regsOf n (b .regs))) ⌝ }
     ensures { λ r. ⌜ ((n : ℕ) → narrowedAtOf n r ≡ bothFound joinBoth (narrowedAtOf n a) (narrowedAtOf n b)) ⌝ }
 {
     let f = a.regs;
-    let g = b.regs;
     if a.read {
         if b.read {
             if a.empty {
@@ -127,11 +127,11 @@ fn join_both(a: NarrowedAt, b: NarrowedAt) -> NarrowedAt
             if b.empty {
                 return narrowed_to(kept(f), b.next);
             }
-            return narrowed_to(kept(join_regs(f, g)), b.next);
+            return narrowed_to(kept(joined), b.next);
         }
-        return not_read(g);
+        return not_read(joined);
     }
-    not_read(g)
+    not_read(joined)
 }
 
 // The right side of an "and" is narrowed on the registers that the left leaves. Where the left leaves none, it is walked
@@ -197,8 +197,10 @@ pub fn narrow_no(
         ConditionKind::Negation => narrow_yes(s, at + 1, end, n, depth - 1, regs),
         ConditionKind::Conjunction => {
             let left = narrow_no(s, at + 1, end, n, depth - 1, regs);
+            let by_left = left.regs;
             let right = narrow_no(s, left.next, end, n, depth - 1, regs);
-            join_both(left, right)
+            let by_right = right.regs;
+            join_both(left, right, join_regs(by_left, by_right))
         }
         ConditionKind::Comparison(o) => narrow_comparison(
             false,

@@ -3,24 +3,24 @@
 use Prim.Native.Nat.{ℕ, zero, suc, _+_, _*_, _-_, _/_, _^_, _≤_, _<_, zero-le}
 use mathlib.Core.Path.{_≡_, refl, sym, ap, ap₂, subst, subst₂, _∙_}
 use mathlib.Core.Logic.{_≢_}
-use mathlib.Core.Bool.{Bool, true, false, not, cond, _&&_}
-use native.Mathlib.Nat.{div-zero, le-refl, le-trans, le-of-lt, mul-le-mul, div-le-self, lt-of-le-of-lt, lt-of-lt-of-le}
+use mathlib.Core.Bool.{Bool, true, false, cond, _&&_}
+use native.Mathlib.Nat.{div-zero, le-refl, le-trans, le-of-lt, mul-le-mul, div-le-self}
 use native.Mathlib.Omega.{arith}
-use lib.Dec.{T, ltb, leb, ltb→lt, nltb→le, leb·suc-suc, leb·zero, leb·suc-zero}
-use lib.IntN.{ℤ, pos, negsuc, negℤ, sucℤ, predℤ, natAbs, subℕ, _+ℤ_, _-ℤ_, _*ℤ_, +ℤ-sucℤ, +ℤ-predℤ, +ℤ-idr}
+use lib.Dec.{T, ltb, leb, leb·suc-suc, leb·zero, leb·suc-zero}
+use lib.IntN.{ℤ, pos, negsuc, negℤ, sucℤ, predℤ, _+ℤ_, _-ℤ_, _*ℤ_, +ℤ-sucℤ, +ℤ-predℤ, +ℤ-idr}
 use lib.Signed.{mag, quotZ, leZ, ltZ}
 use mir.Syntax.{Width, w32, w64}
-use mir.Val.{SFits, toZ, ofZ, hbits}
+use mir.Val.{SFits, toZ, ofZ}
 use mir.Facts.{toZ-ofZ, sfits-widen}
 use borrow.Author.Needs.{needs}
 use borrow.Author.Tests.{ltb-true}
-use Rattle.rules.specs.Interval.{inRange, minZ, maxZ, quotient}
+use Rattle.rules.specs.Interval.{inRange, minZ, maxZ}
 
 -- ---- the bits of a number that fits are the number (`toZ-ofZ`), through a cast from 32 bits to 64 too
 abbrev pub wide : ℤ → ℤ
 wide z = toZ w64 (ofZ w64 (toZ w32 (ofZ w32 z)))
 
-wide-is : {z : ℤ} → SFits w32 z → wide z ≡ z
+pub wide-is : {z : ℤ} → SFits w32 z → wide z ≡ z
 wide-is h = ap (λ (y : ℤ). toZ w64 (ofZ w64 y)) (toZ-ofZ h) ∙ toZ-ofZ (sfits-widen {w′ = w64} tt h)
 
 pub casts : (z : ℤ) → SFits w32 z → SFits w64 (toZ w32 (ofZ w32 z))

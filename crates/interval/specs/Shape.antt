@@ -1,5 +1,5 @@
 -- What a value of each of the code's types is in the rules.
-use lib.IntN.{ℤ, pos}
+use lib.IntN.{pos}
 use Rattle.rules.specs.Refusal.{Result, value, fault}
 use Rattle.rules.specs.Interval as I
 use Rattle.rules.specs.Interval.{Interval, interval}

@@ -61,7 +61,7 @@ fn multiply(a: Val, b: Val) -> Wide
 // The fraction is dropped toward zero.
 fn divide_nonzero(a: Val, b: Val) -> Wide
     requires { ⌜ b .0 ≢ pos 0 ⌝ }
-    ensures { λ r. ⌜ r .0 ≡ quotient (a .0) (b .0) ⌝ }
+    ensures { λ q. ⌜ q .0 ≡ quotient (a .0) (b .0) ⌝ }
 {
     Wide(a.0 as i64 / b.0 as i64)
 }

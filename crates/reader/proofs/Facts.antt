@@ -1,27 +1,32 @@
--- What holds of a sheet that reads and of its index: `accepted`, `rejected`, `program-facts`, `index-facts`, and the facts of
--- one thread and one statement by number. No code in it: later layers cite these from the promise of `read_sheet`.
+-- What holds of a sheet that reads and of its index: `accepted`, `rejected`, `program-facts`, `index-facts`, the facts of a
+-- thread and of a statement by number, and what `statement_at` gives at a place of the index. No code in it: later layers
+-- cite these from the promise of `read_sheet`.
 use mathlib.Core.Path.{_≡_, refl, sym, ap, subst, _∙_}
 use mathlib.Core.Bool.{Bool, true, false, not, _&&_}
 use mathlib.Core.List.{List, [], _∷_, _++_, map}
 use Prim.Native.Nat.{ℕ, zero, suc, _+_, _-_, _*_, _<_, _≤_}
 use native.Mathlib.Nat.{suc-mul, mul-le-mul-right}
 use native.Mathlib.Omega.{arith}
-use lib.Dec.{T, leb, eqb, leb→le, lit<, lit≤}
+use lib.Dec.{T, leb, ltb, eqb, leb→le, lit<, lit≤}
 use lib.ListN.{length, getD, set, length-set, replicate, length-replicate, length-append, List·getD-map}
 use lib.Seq.{sets, length-sets, getD-set-same, getD-set-other}
-use borrow.Author.Tests.{leb-true, eqb-true}
+use borrow.Author.Tests.{leb-true, eqb-true, ltb-true, ltb-false}
 use Rattle.rules.specs.Base.{if_then_else_, Each, nil, _&_}
 use Rattle.rules.specs.Constants.{longestSheet, greatestLimit, greatestBudget, mostLocks, mostVariables, mostThreads, mostStatements}
 use Rattle.rules.specs.Refusal as R
 use Rattle.rules.specs.Refusal.{number, short, outOfTurn, tooLong}
 use Rattle.rules.specs.Interval.{Interval}
-use Rattle.rules.specs.Program.{Statement, Thread, Header, Program, noStatement, noThread}
+use Rattle.rules.specs.Program.{isHalt, Statement, Thread, Header, Program, noStatement, noThread}
 use Rattle.rules.specs.Format.{Bytes, byte, num32, Got, bad, got, need, andThen, Here, wrong, more, done, hasHead, headerFits, readHeader, readLocks, variableHere, readVariables, readThread, threadHere, readThreads, readMany, readSheet}
 use Rattle.rules.proofs.Base.{and-left, and-right, each-map}
 use Rattle.rules.proofs.Format.{If, many-if, variables-ordered}
 use Rattle.reader.specs.declared.threads.ThreadEntry.{ThreadEntry}
 use Rattle.reader.specs.declared.Index.{Index}
 use Rattle.reader.specs.Index.{placesOf, layPlaces, noPlaces, noEntry, entryOf, entriesOf, refusedIndex, indexOf}
+<<<<<<< HEAD
+=======
+use Rattle.reader.specs.Decoded.{statementAt, statementOf}
+>>>>>>> main
 use Rattle.reader.specs.Facts.{threadIn, statementIn, namesIn, ranges, Ordered, Targets, StatementFacts, ThreadFacts, HeaderFacts, ProgramFacts, IndexFacts}
 use Rattle.reader.proofs.IfAt.{IfAt, need-at, then-at, sized-at, due-at, any-at, plain, both-at, weaker-at, with-reading, when-got, many-at, many-few}
 use Rattle.reader.proofs.Loops.{map-length}
@@ -149,6 +154,22 @@ module _ {s : Bytes} {g : Program} (f : ProgramFacts s g) (t : ℕ) (r : t < len
   pub target-in : (k : ℕ) → k < length (threadIn g t .statements) → Targets (length (threadIn g t .statements)) (statementIn g t k .action)
   target-in k b = each-get (λ x. Targets (length (threadIn g t .statements)) (x .action)) (threadIn g t .statements) k noStatement (thread-in .targets) b
 
+<<<<<<< HEAD
+=======
+  -- a statement that is not halt has one behind it
+  pub next-in : (k : ℕ) → k < length (threadIn g t .statements) → isHalt (statementIn g t k .action) ≡ false → k + 1 < length (threadIn g t .statements)
+  next-in k b h = by (ltb (k + 1) (length (threadIn g t .statements))) refl
+    where
+      by : (c : Bool) → ltb (k + 1) (length (threadIn g t .statements)) ≡ c → k + 1 < length (threadIn g t .statements)
+      by true e = ltb-true (k + 1) (length (threadIn g t .statements)) e
+      by false e =
+          let n = ltb-false (k + 1) (length (threadIn g t .statements)) e in
+          let last : length (threadIn g t .statements) - 1 ≡ k = omega arith in
+          let halts : isHalt (statementIn g t k .action) ≡ true =
+          subst (λ (j : ℕ). isHalt (getD (threadIn g t .statements) j noStatement .action) ≡ true) last (thread-in .last-halts) in
+          let z : _≡_ {A = ℕ} 0 1 = cc in absurd (omega arith)
+
+>>>>>>> main
 -- ---- a table, element by element
 
 module _ {B : Type 0} (d : B) where
@@ -233,6 +254,15 @@ facts-of-got s g e f =
 
 pub index-facts : {s : Bytes} {i : Index} (g : Program) (e : ℕ) → i ≡ indexOf (readSheet s) → readSheet s ≡ got g e → IndexFacts s g i
 index-facts {s} g e h q = subst (IndexFacts s g) (sym (h ∙ ap indexOf q)) (facts-of-got s g e (program-facts s g e q))
+
+-- statement k of thread t, by the place that the index has for it: what `statement_at` asks, and what it then gives
+module _ {s : Bytes} {g : Program} {i : Index} (f : ProgramFacts s g) (x : IndexFacts s g i)
+    (t k : ℕ) (r : t < length (g .threads)) (b : k < length (threadIn g t .statements)) where
+  pub place-head : getD (i .places) (t * mostStatements + k) 0 + 8 ≤ length s
+  place-head = subst (λ (p : ℕ). p + 8 ≤ length s) (sym (x .places t k r b)) (statement-in f t r k b .head)
+
+  pub place-decoded : statementAt s (getD (i .places) (t * mostStatements + k) 0) ≡ statementOf s (statementIn g t k)
+  place-decoded = ap (statementAt s) (x .places t k r b) ∙ statement-in f t r k b .decoded
 
 numbered : (r : R.Refusal) → number r ≡ 0 → ⊥
 numbered R.short e = omega arith

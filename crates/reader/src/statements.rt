@@ -222,10 +222,10 @@ fn later_here(s: &[u8], at: usize) -> Next
 pub fn statement_here(s: &[u8], n: usize, at: usize) -> Next
     ensures { λ r. ⌜ r ≡ nextOf (statementHere n (now (s .entry)) at) ⌝ }
 {
-    if n == 0 {
-        return first_here(s, at);
+    if 0 < n {
+        return later_here(s, at);
     }
-    later_here(s, at)
+    first_here(s, at)
 }
 
 // A thread's statements: their places go into the table from base on.

@@ -6,7 +6,7 @@ use mathlib.Core.Option.{Option, none, some}
 use mathlib.Core.List.{List, [], _∷_, map}
 use native.Mathlib.Omega.{arith}
 use lib.Dec.{ltb, leb}
-use lib.IntN.{ℤ, predℤ, sucℤ}
+use lib.IntN.{predℤ, sucℤ}
 use lib.Signed.{leZ, ltZ}
 use lib.ListN.{getD, set, take}
 use lib.Seq.{take-set-lt}
@@ -15,7 +15,7 @@ use Rattle.rules.specs.Base.{if_then_else_}
 use Rattle.rules.specs.Refusal.{Refusal, badExpression, noSuchName, Result, value, fault}
 use Rattle.rules.specs.Interval.{Interval, Operator, meet}
 use Rattle.rules.specs.Program.{Arith, operation}
-use Rattle.rules.specs.Expression.{Regs, atMost, atLeast, keep, onRegister, equalYes, equalNo, lessYes, lessNo, compared}
+use Rattle.rules.specs.Expression.{Regs, atMost, atLeast, keep, onRegister, equalYes, lessYes, lessNo, compared}
 use Rattle.rules.specs.Format as F
 use Rattle.rules.specs.Format.{Bytes, byte, Got, bad, got, andThen, need, arithAt, onArith, readConstant, readRegister, readArith}
 use Rattle.interval.specs.declared.Val.{Val}

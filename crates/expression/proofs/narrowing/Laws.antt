@@ -2,7 +2,7 @@
 use Prim.Native.Nat.{ℕ, zero, suc}
 use mathlib.Core.Path.{_≡_, refl, sym, ap, ap₂, _∙_}
 use mathlib.Core.Bool.{Bool, true, false}
-use mathlib.Core.Option.{Option, none, some}
+use mathlib.Core.Option.{Option, none}
 use mathlib.Core.List.{List, [], _∷_, map}
 use native.Mathlib.Omega.{arith}
 use lib.ListN.{length, getD, take}
@@ -17,7 +17,7 @@ use Rattle.expression.specs.declared.kind.Relation.{Relation}
 use Rattle.expression.specs.declared.kind.Relation.the-variants.{Equal, Less}
 use Rattle.expression.specs.Kind.{relationOf}
 use Rattle.expression.specs.Reading.{pairAt}
-use Rattle.expression.specs.Evaluation.{regsOf, Found, unread, read, foundOf, seen, bothFound, evaluatedIn}
+use Rattle.expression.specs.Evaluation.{regsOf, Found, unread, read, seen, bothFound, evaluatedIn}
 use Rattle.expression.specs.Comparison.{sideAt, sideOf, unlessFlagged, comparisonRule}
 use Rattle.expression.specs.Narrowing.{yesIn, noIn, narrowBy, narrowedIn, unlessEmpty}
 use Rattle.expression.proofs.kind.Laws.{conjunctionAt}

@@ -277,12 +277,12 @@ pub later-end : (s : Bytes) (at : ℕ) → at ≡ length s → Done ≡ nextOf (
 unfolding statementHere nextOf
 later-end s at h = rw (eq-eqb at (length s) h)
 
-pub first-any : (n : ℕ) (s : Bytes) (at : ℕ) → n ≡ 0 → nextOf (statementHere 0 s at) ≡ nextOf (statementHere n s at)
-first-any n s at h = ap (λ (k : ℕ). nextOf (statementHere k s at)) (sym h)
+pub first-any : (n : ℕ) (s : Bytes) (at : ℕ) → n ≤ 0 → nextOf (statementHere 0 s at) ≡ nextOf (statementHere n s at)
+first-any n s at h = let e : 0 ≡ n = omega arith in ap (λ (k : ℕ). nextOf (statementHere k s at)) e
 
-pub later-any : (n : ℕ) (s : Bytes) (at : ℕ) → (n ≡ 0 → ⊥) → nextOf (statementHere 1 s at) ≡ nextOf (statementHere n s at)
+pub later-any : (n : ℕ) (s : Bytes) (at : ℕ) → 0 < n → nextOf (statementHere 1 s at) ≡ nextOf (statementHere n s at)
 unfolding statementHere
-later-any zero s at f = absurd (f refl)
+later-any zero s at f = absurd (omega arith)
 later-any (suc n) s at f = refl
 
 -- where one more stands, its header is there

@@ -27,6 +27,7 @@ use Rattle.expression.proofs.comparison.emptied.Reads as emptied-reads
 use Rattle.expression.proofs.comparison.kept.Reads as kept-reads
 use Rattle.expression.proofs.kind.condition_at.Reads as condition-at-reads
 use Rattle.expression.proofs.narrowing.join_both.Reads as join-both-reads
+use Rattle.expression.proofs.narrowing.join_regs.Reads as join-regs-reads
 use Rattle.expression.proofs.narrowing.narrow_comparison.Reads as narrow-comparison-reads
 use Rattle.expression.proofs.narrowing.narrowed_to.Reads as narrowed-to-reads
 use Rattle.expression.proofs.narrowing.not_read.Reads as not-read-reads
@@ -55,119 +56,122 @@ abbrev narrow-yes-below : ℕ → In 1 narrow-yes-kinds.ps
 narrow-yes-below t =
     and 1 narrow-yes-kinds.ps (falls 1 narrow-yes-kinds.ps _<_ μ-narrow-yes t) narrow-yes.Pre
 
-narrow-no-not-read-requires : (t : ℕ) → narrow-no-lts.Need-not-read-requires (not-read-reads.Asked, not-read-reads.Learnt, condition-at-reads.Asked, condition-at-reads.Learnt, emptied-reads.Asked, emptied-reads.Learnt, narrowed-to-reads.Asked, narrowed-to-reads.Learnt, kept-reads.Asked, kept-reads.Learnt, narrow-yes-below t, narrow-yes.Post, narrow-no-below t, narrow-no.Post, join-both-reads.Asked, join-both-reads.Learnt, narrow-comparison-reads.Asked, narrow-comparison-reads.Learnt) (narrow-no-at t) narrow-no.Post
+narrow-no-not-read-requires : (t : ℕ) → narrow-no-lts.Need-not-read-requires (not-read-reads.Asked, not-read-reads.Learnt, condition-at-reads.Asked, condition-at-reads.Learnt, emptied-reads.Asked, emptied-reads.Learnt, narrowed-to-reads.Asked, narrowed-to-reads.Learnt, kept-reads.Asked, kept-reads.Learnt, narrow-yes-below t, narrow-yes.Post, narrow-no-below t, narrow-no.Post, join-regs-reads.Asked, join-regs-reads.Learnt, join-both-reads.Asked, join-both-reads.Learnt, narrow-comparison-reads.Asked, narrow-comparison-reads.Learnt) (narrow-no-at t) narrow-no.Post
 narrow-no-not-read-requires t c κs = search needs
 
-narrow-no-returns : (t : ℕ) → narrow-no-lts.Need-returns (not-read-reads.Asked, not-read-reads.Learnt, condition-at-reads.Asked, condition-at-reads.Learnt, emptied-reads.Asked, emptied-reads.Learnt, narrowed-to-reads.Asked, narrowed-to-reads.Learnt, kept-reads.Asked, kept-reads.Learnt, narrow-yes-below t, narrow-yes.Post, narrow-no-below t, narrow-no.Post, join-both-reads.Asked, join-both-reads.Learnt, narrow-comparison-reads.Asked, narrow-comparison-reads.Learnt) (narrow-no-at t) narrow-no.Post
+narrow-no-returns : (t : ℕ) → narrow-no-lts.Need-returns (not-read-reads.Asked, not-read-reads.Learnt, condition-at-reads.Asked, condition-at-reads.Learnt, emptied-reads.Asked, emptied-reads.Learnt, narrowed-to-reads.Asked, narrowed-to-reads.Learnt, kept-reads.Asked, kept-reads.Learnt, narrow-yes-below t, narrow-yes.Post, narrow-no-below t, narrow-no.Post, join-regs-reads.Asked, join-regs-reads.Learnt, join-both-reads.Asked, join-both-reads.Learnt, narrow-comparison-reads.Asked, narrow-comparison-reads.Learnt) (narrow-no-at t) narrow-no.Post
 narrow-no-returns t c = let arg = c .before .before .before .args in
     c .not-read .ensures (arg .n) ∙ condition-unread (λ k. narrowNo k (regsOf (arg .n) (arg .regs))) (arg .s .now) (arg .end) (arg .n) (arg .at) (arg .depth) (c .before .if1 .taken)
 
-narrow-no-condition-at-requires : (t : ℕ) → narrow-no-lts.Need-condition-at-requires (not-read-reads.Asked, not-read-reads.Learnt, condition-at-reads.Asked, condition-at-reads.Learnt, emptied-reads.Asked, emptied-reads.Learnt, narrowed-to-reads.Asked, narrowed-to-reads.Learnt, kept-reads.Asked, kept-reads.Learnt, narrow-yes-below t, narrow-yes.Post, narrow-no-below t, narrow-no.Post, join-both-reads.Asked, join-both-reads.Learnt, narrow-comparison-reads.Asked, narrow-comparison-reads.Learnt) (narrow-no-at t) narrow-no.Post
+narrow-no-condition-at-requires : (t : ℕ) → narrow-no-lts.Need-condition-at-requires (not-read-reads.Asked, not-read-reads.Learnt, condition-at-reads.Asked, condition-at-reads.Learnt, emptied-reads.Asked, emptied-reads.Learnt, narrowed-to-reads.Asked, narrowed-to-reads.Learnt, kept-reads.Asked, kept-reads.Learnt, narrow-yes-below t, narrow-yes.Post, narrow-no-below t, narrow-no.Post, join-regs-reads.Asked, join-regs-reads.Learnt, join-both-reads.Asked, join-both-reads.Learnt, narrow-comparison-reads.Asked, narrow-comparison-reads.Learnt) (narrow-no-at t) narrow-no.Post
 narrow-no-condition-at-requires t c κs = search needs
 
-narrow-no-enum-told : (t : ℕ) → narrow-no-lts.Need-enum-told (not-read-reads.Asked, not-read-reads.Learnt, condition-at-reads.Asked, condition-at-reads.Learnt, emptied-reads.Asked, emptied-reads.Learnt, narrowed-to-reads.Asked, narrowed-to-reads.Learnt, kept-reads.Asked, kept-reads.Learnt, narrow-yes-below t, narrow-yes.Post, narrow-no-below t, narrow-no.Post, join-both-reads.Asked, join-both-reads.Learnt, narrow-comparison-reads.Asked, narrow-comparison-reads.Learnt) (narrow-no-at t) narrow-no.Post
+narrow-no-enum-told : (t : ℕ) → narrow-no-lts.Need-enum-told (not-read-reads.Asked, not-read-reads.Learnt, condition-at-reads.Asked, condition-at-reads.Learnt, emptied-reads.Asked, emptied-reads.Learnt, narrowed-to-reads.Asked, narrowed-to-reads.Learnt, kept-reads.Asked, kept-reads.Learnt, narrow-yes-below t, narrow-yes.Post, narrow-no-below t, narrow-no.Post, join-regs-reads.Asked, join-regs-reads.Learnt, join-both-reads.Asked, join-both-reads.Learnt, narrow-comparison-reads.Asked, narrow-comparison-reads.Learnt) (narrow-no-at t) narrow-no.Post
 narrow-no-enum-told t c = search needs
 
-narrow-no-emptied-requires : (t : ℕ) → narrow-no-lts.Need-emptied-requires (not-read-reads.Asked, not-read-reads.Learnt, condition-at-reads.Asked, condition-at-reads.Learnt, emptied-reads.Asked, emptied-reads.Learnt, narrowed-to-reads.Asked, narrowed-to-reads.Learnt, kept-reads.Asked, kept-reads.Learnt, narrow-yes-below t, narrow-yes.Post, narrow-no-below t, narrow-no.Post, join-both-reads.Asked, join-both-reads.Learnt, narrow-comparison-reads.Asked, narrow-comparison-reads.Learnt) (narrow-no-at t) narrow-no.Post
+narrow-no-emptied-requires : (t : ℕ) → narrow-no-lts.Need-emptied-requires (not-read-reads.Asked, not-read-reads.Learnt, condition-at-reads.Asked, condition-at-reads.Learnt, emptied-reads.Asked, emptied-reads.Learnt, narrowed-to-reads.Asked, narrowed-to-reads.Learnt, kept-reads.Asked, kept-reads.Learnt, narrow-yes-below t, narrow-yes.Post, narrow-no-below t, narrow-no.Post, join-regs-reads.Asked, join-regs-reads.Learnt, join-both-reads.Asked, join-both-reads.Learnt, narrow-comparison-reads.Asked, narrow-comparison-reads.Learnt) (narrow-no-at t) narrow-no.Post
 narrow-no-emptied-requires t c κs = search needs
 
-narrow-no-add-narrowed-to : (t : ℕ) → narrow-no-lts.Need-add-narrowed-to (not-read-reads.Asked, not-read-reads.Learnt, condition-at-reads.Asked, condition-at-reads.Learnt, emptied-reads.Asked, emptied-reads.Learnt, narrowed-to-reads.Asked, narrowed-to-reads.Learnt, kept-reads.Asked, kept-reads.Learnt, narrow-yes-below t, narrow-yes.Post, narrow-no-below t, narrow-no.Post, join-both-reads.Asked, join-both-reads.Learnt, narrow-comparison-reads.Asked, narrow-comparison-reads.Learnt) (narrow-no-at t) narrow-no.Post
+narrow-no-add-narrowed-to : (t : ℕ) → narrow-no-lts.Need-add-narrowed-to (not-read-reads.Asked, not-read-reads.Learnt, condition-at-reads.Asked, condition-at-reads.Learnt, emptied-reads.Asked, emptied-reads.Learnt, narrowed-to-reads.Asked, narrowed-to-reads.Learnt, kept-reads.Asked, kept-reads.Learnt, narrow-yes-below t, narrow-yes.Post, narrow-no-below t, narrow-no.Post, join-regs-reads.Asked, join-regs-reads.Learnt, join-both-reads.Asked, join-both-reads.Learnt, narrow-comparison-reads.Asked, narrow-comparison-reads.Learnt) (narrow-no-at t) narrow-no.Post
 narrow-no-add-narrowed-to t c = let arg = c .before .before .before .before .before .before .args in
     omega (arith, condition-inside (arg .s .now) (arg .end) (arg .at) _ (sym (c .before .before .before .condition-at .ensures) ∙ ap conditionKindOf (c .before .enum-told .given .1)) (not-leaf always))
 
-narrow-no-narrowed-to-requires : (t : ℕ) → narrow-no-lts.Need-narrowed-to-requires (not-read-reads.Asked, not-read-reads.Learnt, condition-at-reads.Asked, condition-at-reads.Learnt, emptied-reads.Asked, emptied-reads.Learnt, narrowed-to-reads.Asked, narrowed-to-reads.Learnt, kept-reads.Asked, kept-reads.Learnt, narrow-yes-below t, narrow-yes.Post, narrow-no-below t, narrow-no.Post, join-both-reads.Asked, join-both-reads.Learnt, narrow-comparison-reads.Asked, narrow-comparison-reads.Learnt) (narrow-no-at t) narrow-no.Post
+narrow-no-narrowed-to-requires : (t : ℕ) → narrow-no-lts.Need-narrowed-to-requires (not-read-reads.Asked, not-read-reads.Learnt, condition-at-reads.Asked, condition-at-reads.Learnt, emptied-reads.Asked, emptied-reads.Learnt, narrowed-to-reads.Asked, narrowed-to-reads.Learnt, kept-reads.Asked, kept-reads.Learnt, narrow-yes-below t, narrow-yes.Post, narrow-no-below t, narrow-no.Post, join-regs-reads.Asked, join-regs-reads.Learnt, join-both-reads.Asked, join-both-reads.Learnt, narrow-comparison-reads.Asked, narrow-comparison-reads.Learnt) (narrow-no-at t) narrow-no.Post
 narrow-no-narrowed-to-requires t c κs = search needs
 
-narrow-no-enum-told-2 : (t : ℕ) → narrow-no-lts.Need-enum-told-2 (not-read-reads.Asked, not-read-reads.Learnt, condition-at-reads.Asked, condition-at-reads.Learnt, emptied-reads.Asked, emptied-reads.Learnt, narrowed-to-reads.Asked, narrowed-to-reads.Learnt, kept-reads.Asked, kept-reads.Learnt, narrow-yes-below t, narrow-yes.Post, narrow-no-below t, narrow-no.Post, join-both-reads.Asked, join-both-reads.Learnt, narrow-comparison-reads.Asked, narrow-comparison-reads.Learnt) (narrow-no-at t) narrow-no.Post
+narrow-no-enum-told-2 : (t : ℕ) → narrow-no-lts.Need-enum-told-2 (not-read-reads.Asked, not-read-reads.Learnt, condition-at-reads.Asked, condition-at-reads.Learnt, emptied-reads.Asked, emptied-reads.Learnt, narrowed-to-reads.Asked, narrowed-to-reads.Learnt, kept-reads.Asked, kept-reads.Learnt, narrow-yes-below t, narrow-yes.Post, narrow-no-below t, narrow-no.Post, join-regs-reads.Asked, join-regs-reads.Learnt, join-both-reads.Asked, join-both-reads.Learnt, narrow-comparison-reads.Asked, narrow-comparison-reads.Learnt) (narrow-no-at t) narrow-no.Post
 narrow-no-enum-told-2 t c = search needs
 
-narrow-no-kept-requires : (t : ℕ) → narrow-no-lts.Need-kept-requires (not-read-reads.Asked, not-read-reads.Learnt, condition-at-reads.Asked, condition-at-reads.Learnt, emptied-reads.Asked, emptied-reads.Learnt, narrowed-to-reads.Asked, narrowed-to-reads.Learnt, kept-reads.Asked, kept-reads.Learnt, narrow-yes-below t, narrow-yes.Post, narrow-no-below t, narrow-no.Post, join-both-reads.Asked, join-both-reads.Learnt, narrow-comparison-reads.Asked, narrow-comparison-reads.Learnt) (narrow-no-at t) narrow-no.Post
+narrow-no-kept-requires : (t : ℕ) → narrow-no-lts.Need-kept-requires (not-read-reads.Asked, not-read-reads.Learnt, condition-at-reads.Asked, condition-at-reads.Learnt, emptied-reads.Asked, emptied-reads.Learnt, narrowed-to-reads.Asked, narrowed-to-reads.Learnt, kept-reads.Asked, kept-reads.Learnt, narrow-yes-below t, narrow-yes.Post, narrow-no-below t, narrow-no.Post, join-regs-reads.Asked, join-regs-reads.Learnt, join-both-reads.Asked, join-both-reads.Learnt, narrow-comparison-reads.Asked, narrow-comparison-reads.Learnt) (narrow-no-at t) narrow-no.Post
 narrow-no-kept-requires t c κs = search needs
 
-narrow-no-add-narrowed-to-2 : (t : ℕ) → narrow-no-lts.Need-add-narrowed-to-2 (not-read-reads.Asked, not-read-reads.Learnt, condition-at-reads.Asked, condition-at-reads.Learnt, emptied-reads.Asked, emptied-reads.Learnt, narrowed-to-reads.Asked, narrowed-to-reads.Learnt, kept-reads.Asked, kept-reads.Learnt, narrow-yes-below t, narrow-yes.Post, narrow-no-below t, narrow-no.Post, join-both-reads.Asked, join-both-reads.Learnt, narrow-comparison-reads.Asked, narrow-comparison-reads.Learnt) (narrow-no-at t) narrow-no.Post
+narrow-no-add-narrowed-to-2 : (t : ℕ) → narrow-no-lts.Need-add-narrowed-to-2 (not-read-reads.Asked, not-read-reads.Learnt, condition-at-reads.Asked, condition-at-reads.Learnt, emptied-reads.Asked, emptied-reads.Learnt, narrowed-to-reads.Asked, narrowed-to-reads.Learnt, kept-reads.Asked, kept-reads.Learnt, narrow-yes-below t, narrow-yes.Post, narrow-no-below t, narrow-no.Post, join-regs-reads.Asked, join-regs-reads.Learnt, join-both-reads.Asked, join-both-reads.Learnt, narrow-comparison-reads.Asked, narrow-comparison-reads.Learnt) (narrow-no-at t) narrow-no.Post
 narrow-no-add-narrowed-to-2 t c = let arg = c .before .before .before .before .before .before .args in
     omega (arith, condition-inside (arg .s .now) (arg .end) (arg .at) _ (sym (c .before .before .before .condition-at .ensures) ∙ ap conditionKindOf (c .before .enum-told2 .given .1)) (not-leaf never))
 
-narrow-no-narrowed-to-requires-2 : (t : ℕ) → narrow-no-lts.Need-narrowed-to-requires-2 (not-read-reads.Asked, not-read-reads.Learnt, condition-at-reads.Asked, condition-at-reads.Learnt, emptied-reads.Asked, emptied-reads.Learnt, narrowed-to-reads.Asked, narrowed-to-reads.Learnt, kept-reads.Asked, kept-reads.Learnt, narrow-yes-below t, narrow-yes.Post, narrow-no-below t, narrow-no.Post, join-both-reads.Asked, join-both-reads.Learnt, narrow-comparison-reads.Asked, narrow-comparison-reads.Learnt) (narrow-no-at t) narrow-no.Post
+narrow-no-narrowed-to-requires-2 : (t : ℕ) → narrow-no-lts.Need-narrowed-to-requires-2 (not-read-reads.Asked, not-read-reads.Learnt, condition-at-reads.Asked, condition-at-reads.Learnt, emptied-reads.Asked, emptied-reads.Learnt, narrowed-to-reads.Asked, narrowed-to-reads.Learnt, kept-reads.Asked, kept-reads.Learnt, narrow-yes-below t, narrow-yes.Post, narrow-no-below t, narrow-no.Post, join-regs-reads.Asked, join-regs-reads.Learnt, join-both-reads.Asked, join-both-reads.Learnt, narrow-comparison-reads.Asked, narrow-comparison-reads.Learnt) (narrow-no-at t) narrow-no.Post
 narrow-no-narrowed-to-requires-2 t c κs = search needs
 
-narrow-no-enum-told-3 : (t : ℕ) → narrow-no-lts.Need-enum-told-3 (not-read-reads.Asked, not-read-reads.Learnt, condition-at-reads.Asked, condition-at-reads.Learnt, emptied-reads.Asked, emptied-reads.Learnt, narrowed-to-reads.Asked, narrowed-to-reads.Learnt, kept-reads.Asked, kept-reads.Learnt, narrow-yes-below t, narrow-yes.Post, narrow-no-below t, narrow-no.Post, join-both-reads.Asked, join-both-reads.Learnt, narrow-comparison-reads.Asked, narrow-comparison-reads.Learnt) (narrow-no-at t) narrow-no.Post
+narrow-no-enum-told-3 : (t : ℕ) → narrow-no-lts.Need-enum-told-3 (not-read-reads.Asked, not-read-reads.Learnt, condition-at-reads.Asked, condition-at-reads.Learnt, emptied-reads.Asked, emptied-reads.Learnt, narrowed-to-reads.Asked, narrowed-to-reads.Learnt, kept-reads.Asked, kept-reads.Learnt, narrow-yes-below t, narrow-yes.Post, narrow-no-below t, narrow-no.Post, join-regs-reads.Asked, join-regs-reads.Learnt, join-both-reads.Asked, join-both-reads.Learnt, narrow-comparison-reads.Asked, narrow-comparison-reads.Learnt) (narrow-no-at t) narrow-no.Post
 narrow-no-enum-told-3 t c = search needs
 
-narrow-no-add-narrow-yes : (t : ℕ) → narrow-no-lts.Need-add-narrow-yes (not-read-reads.Asked, not-read-reads.Learnt, condition-at-reads.Asked, condition-at-reads.Learnt, emptied-reads.Asked, emptied-reads.Learnt, narrowed-to-reads.Asked, narrowed-to-reads.Learnt, kept-reads.Asked, kept-reads.Learnt, narrow-yes-below t, narrow-yes.Post, narrow-no-below t, narrow-no.Post, join-both-reads.Asked, join-both-reads.Learnt, narrow-comparison-reads.Asked, narrow-comparison-reads.Learnt) (narrow-no-at t) narrow-no.Post
+narrow-no-add-narrow-yes : (t : ℕ) → narrow-no-lts.Need-add-narrow-yes (not-read-reads.Asked, not-read-reads.Learnt, condition-at-reads.Asked, condition-at-reads.Learnt, emptied-reads.Asked, emptied-reads.Learnt, narrowed-to-reads.Asked, narrowed-to-reads.Learnt, kept-reads.Asked, kept-reads.Learnt, narrow-yes-below t, narrow-yes.Post, narrow-no-below t, narrow-no.Post, join-regs-reads.Asked, join-regs-reads.Learnt, join-both-reads.Asked, join-both-reads.Learnt, narrow-comparison-reads.Asked, narrow-comparison-reads.Learnt) (narrow-no-at t) narrow-no.Post
 narrow-no-add-narrow-yes t c = let arg = c .before .before .before .before .before .args in
     omega (arith, condition-inside (arg .s .now) (arg .end) (arg .at) _ (sym (c .before .before .condition-at .ensures) ∙ ap conditionKindOf (c .enum-told3 .given .1)) not-negation)
 
-narrow-no-sub-narrow-yes : (t : ℕ) → narrow-no-lts.Need-sub-narrow-yes (not-read-reads.Asked, not-read-reads.Learnt, condition-at-reads.Asked, condition-at-reads.Learnt, emptied-reads.Asked, emptied-reads.Learnt, narrowed-to-reads.Asked, narrowed-to-reads.Learnt, kept-reads.Asked, kept-reads.Learnt, narrow-yes-below t, narrow-yes.Post, narrow-no-below t, narrow-no.Post, join-both-reads.Asked, join-both-reads.Learnt, narrow-comparison-reads.Asked, narrow-comparison-reads.Learnt) (narrow-no-at t) narrow-no.Post
+narrow-no-sub-narrow-yes : (t : ℕ) → narrow-no-lts.Need-sub-narrow-yes (not-read-reads.Asked, not-read-reads.Learnt, condition-at-reads.Asked, condition-at-reads.Learnt, emptied-reads.Asked, emptied-reads.Learnt, narrowed-to-reads.Asked, narrowed-to-reads.Learnt, kept-reads.Asked, kept-reads.Learnt, narrow-yes-below t, narrow-yes.Post, narrow-no-below t, narrow-no.Post, join-regs-reads.Asked, join-regs-reads.Learnt, join-both-reads.Asked, join-both-reads.Learnt, narrow-comparison-reads.Asked, narrow-comparison-reads.Learnt) (narrow-no-at t) narrow-no.Post
 narrow-no-sub-narrow-yes t c = search needs
 
-narrow-no-narrow-yes-requires : (t : ℕ) → narrow-no-lts.Need-narrow-yes-requires (not-read-reads.Asked, not-read-reads.Learnt, condition-at-reads.Asked, condition-at-reads.Learnt, emptied-reads.Asked, emptied-reads.Learnt, narrowed-to-reads.Asked, narrowed-to-reads.Learnt, kept-reads.Asked, kept-reads.Learnt, narrow-yes-below t, narrow-yes.Post, narrow-no-below t, narrow-no.Post, join-both-reads.Asked, join-both-reads.Learnt, narrow-comparison-reads.Asked, narrow-comparison-reads.Learnt) (narrow-no-at t) narrow-no.Post
+narrow-no-narrow-yes-requires : (t : ℕ) → narrow-no-lts.Need-narrow-yes-requires (not-read-reads.Asked, not-read-reads.Learnt, condition-at-reads.Asked, condition-at-reads.Learnt, emptied-reads.Asked, emptied-reads.Learnt, narrowed-to-reads.Asked, narrowed-to-reads.Learnt, kept-reads.Asked, kept-reads.Learnt, narrow-yes-below t, narrow-yes.Post, narrow-no-below t, narrow-no.Post, join-regs-reads.Asked, join-regs-reads.Learnt, join-both-reads.Asked, join-both-reads.Learnt, narrow-comparison-reads.Asked, narrow-comparison-reads.Learnt) (narrow-no-at t) narrow-no.Post
 narrow-no-narrow-yes-requires t c κs = search needs
 
-narrow-no-enum-told-4 : (t : ℕ) → narrow-no-lts.Need-enum-told-4 (not-read-reads.Asked, not-read-reads.Learnt, condition-at-reads.Asked, condition-at-reads.Learnt, emptied-reads.Asked, emptied-reads.Learnt, narrowed-to-reads.Asked, narrowed-to-reads.Learnt, kept-reads.Asked, kept-reads.Learnt, narrow-yes-below t, narrow-yes.Post, narrow-no-below t, narrow-no.Post, join-both-reads.Asked, join-both-reads.Learnt, narrow-comparison-reads.Asked, narrow-comparison-reads.Learnt) (narrow-no-at t) narrow-no.Post
+narrow-no-enum-told-4 : (t : ℕ) → narrow-no-lts.Need-enum-told-4 (not-read-reads.Asked, not-read-reads.Learnt, condition-at-reads.Asked, condition-at-reads.Learnt, emptied-reads.Asked, emptied-reads.Learnt, narrowed-to-reads.Asked, narrowed-to-reads.Learnt, kept-reads.Asked, kept-reads.Learnt, narrow-yes-below t, narrow-yes.Post, narrow-no-below t, narrow-no.Post, join-regs-reads.Asked, join-regs-reads.Learnt, join-both-reads.Asked, join-both-reads.Learnt, narrow-comparison-reads.Asked, narrow-comparison-reads.Learnt) (narrow-no-at t) narrow-no.Post
 narrow-no-enum-told-4 t c = search needs
 
-narrow-no-add-narrow-no : (t : ℕ) → narrow-no-lts.Need-add-narrow-no (not-read-reads.Asked, not-read-reads.Learnt, condition-at-reads.Asked, condition-at-reads.Learnt, emptied-reads.Asked, emptied-reads.Learnt, narrowed-to-reads.Asked, narrowed-to-reads.Learnt, kept-reads.Asked, kept-reads.Learnt, narrow-yes-below t, narrow-yes.Post, narrow-no-below t, narrow-no.Post, join-both-reads.Asked, join-both-reads.Learnt, narrow-comparison-reads.Asked, narrow-comparison-reads.Learnt) (narrow-no-at t) narrow-no.Post
+narrow-no-add-narrow-no : (t : ℕ) → narrow-no-lts.Need-add-narrow-no (not-read-reads.Asked, not-read-reads.Learnt, condition-at-reads.Asked, condition-at-reads.Learnt, emptied-reads.Asked, emptied-reads.Learnt, narrowed-to-reads.Asked, narrowed-to-reads.Learnt, kept-reads.Asked, kept-reads.Learnt, narrow-yes-below t, narrow-yes.Post, narrow-no-below t, narrow-no.Post, join-regs-reads.Asked, join-regs-reads.Learnt, join-both-reads.Asked, join-both-reads.Learnt, narrow-comparison-reads.Asked, narrow-comparison-reads.Learnt) (narrow-no-at t) narrow-no.Post
 narrow-no-add-narrow-no t c = let arg = c .before .before .before .before .before .args in
     omega (arith, condition-inside (arg .s .now) (arg .end) (arg .at) _ (sym (c .before .before .condition-at .ensures) ∙ ap conditionKindOf (c .enum-told4 .given .1)) not-conjunction)
 
-narrow-no-sub-narrow-no : (t : ℕ) → narrow-no-lts.Need-sub-narrow-no (not-read-reads.Asked, not-read-reads.Learnt, condition-at-reads.Asked, condition-at-reads.Learnt, emptied-reads.Asked, emptied-reads.Learnt, narrowed-to-reads.Asked, narrowed-to-reads.Learnt, kept-reads.Asked, kept-reads.Learnt, narrow-yes-below t, narrow-yes.Post, narrow-no-below t, narrow-no.Post, join-both-reads.Asked, join-both-reads.Learnt, narrow-comparison-reads.Asked, narrow-comparison-reads.Learnt) (narrow-no-at t) narrow-no.Post
+narrow-no-sub-narrow-no : (t : ℕ) → narrow-no-lts.Need-sub-narrow-no (not-read-reads.Asked, not-read-reads.Learnt, condition-at-reads.Asked, condition-at-reads.Learnt, emptied-reads.Asked, emptied-reads.Learnt, narrowed-to-reads.Asked, narrowed-to-reads.Learnt, kept-reads.Asked, kept-reads.Learnt, narrow-yes-below t, narrow-yes.Post, narrow-no-below t, narrow-no.Post, join-regs-reads.Asked, join-regs-reads.Learnt, join-both-reads.Asked, join-both-reads.Learnt, narrow-comparison-reads.Asked, narrow-comparison-reads.Learnt) (narrow-no-at t) narrow-no.Post
 narrow-no-sub-narrow-no t c = search needs
 
-narrow-no-narrow-no-requires : (t : ℕ) → narrow-no-lts.Need-narrow-no-requires (not-read-reads.Asked, not-read-reads.Learnt, condition-at-reads.Asked, condition-at-reads.Learnt, emptied-reads.Asked, emptied-reads.Learnt, narrowed-to-reads.Asked, narrowed-to-reads.Learnt, kept-reads.Asked, kept-reads.Learnt, narrow-yes-below t, narrow-yes.Post, narrow-no-below t, narrow-no.Post, join-both-reads.Asked, join-both-reads.Learnt, narrow-comparison-reads.Asked, narrow-comparison-reads.Learnt) (narrow-no-at t) narrow-no.Post
+narrow-no-narrow-no-requires : (t : ℕ) → narrow-no-lts.Need-narrow-no-requires (not-read-reads.Asked, not-read-reads.Learnt, condition-at-reads.Asked, condition-at-reads.Learnt, emptied-reads.Asked, emptied-reads.Learnt, narrowed-to-reads.Asked, narrowed-to-reads.Learnt, kept-reads.Asked, kept-reads.Learnt, narrow-yes-below t, narrow-yes.Post, narrow-no-below t, narrow-no.Post, join-regs-reads.Asked, join-regs-reads.Learnt, join-both-reads.Asked, join-both-reads.Learnt, narrow-comparison-reads.Asked, narrow-comparison-reads.Learnt) (narrow-no-at t) narrow-no.Post
 narrow-no-narrow-no-requires t c κs = search needs
 
-narrow-no-sub-narrow-no-2 : (t : ℕ) → narrow-no-lts.Need-sub-narrow-no-2 (not-read-reads.Asked, not-read-reads.Learnt, condition-at-reads.Asked, condition-at-reads.Learnt, emptied-reads.Asked, emptied-reads.Learnt, narrowed-to-reads.Asked, narrowed-to-reads.Learnt, kept-reads.Asked, kept-reads.Learnt, narrow-yes-below t, narrow-yes.Post, narrow-no-below t, narrow-no.Post, join-both-reads.Asked, join-both-reads.Learnt, narrow-comparison-reads.Asked, narrow-comparison-reads.Learnt) (narrow-no-at t) narrow-no.Post
+narrow-no-sub-narrow-no-2 : (t : ℕ) → narrow-no-lts.Need-sub-narrow-no-2 (not-read-reads.Asked, not-read-reads.Learnt, condition-at-reads.Asked, condition-at-reads.Learnt, emptied-reads.Asked, emptied-reads.Learnt, narrowed-to-reads.Asked, narrowed-to-reads.Learnt, kept-reads.Asked, kept-reads.Learnt, narrow-yes-below t, narrow-yes.Post, narrow-no-below t, narrow-no.Post, join-regs-reads.Asked, join-regs-reads.Learnt, join-both-reads.Asked, join-both-reads.Learnt, narrow-comparison-reads.Asked, narrow-comparison-reads.Learnt) (narrow-no-at t) narrow-no.Post
 narrow-no-sub-narrow-no-2 t c = search needs
 
-narrow-no-narrow-no-requires-2 : (t : ℕ) → narrow-no-lts.Need-narrow-no-requires-2 (not-read-reads.Asked, not-read-reads.Learnt, condition-at-reads.Asked, condition-at-reads.Learnt, emptied-reads.Asked, emptied-reads.Learnt, narrowed-to-reads.Asked, narrowed-to-reads.Learnt, kept-reads.Asked, kept-reads.Learnt, narrow-yes-below t, narrow-yes.Post, narrow-no-below t, narrow-no.Post, join-both-reads.Asked, join-both-reads.Learnt, narrow-comparison-reads.Asked, narrow-comparison-reads.Learnt) (narrow-no-at t) narrow-no.Post
+narrow-no-narrow-no-requires-2 : (t : ℕ) → narrow-no-lts.Need-narrow-no-requires-2 (not-read-reads.Asked, not-read-reads.Learnt, condition-at-reads.Asked, condition-at-reads.Learnt, emptied-reads.Asked, emptied-reads.Learnt, narrowed-to-reads.Asked, narrowed-to-reads.Learnt, kept-reads.Asked, kept-reads.Learnt, narrow-yes-below t, narrow-yes.Post, narrow-no-below t, narrow-no.Post, join-regs-reads.Asked, join-regs-reads.Learnt, join-both-reads.Asked, join-both-reads.Learnt, narrow-comparison-reads.Asked, narrow-comparison-reads.Learnt) (narrow-no-at t) narrow-no.Post
 narrow-no-narrow-no-requires-2 t c κs = search needs
 
-narrow-no-join-both-requires : (t : ℕ) → narrow-no-lts.Need-join-both-requires (not-read-reads.Asked, not-read-reads.Learnt, condition-at-reads.Asked, condition-at-reads.Learnt, emptied-reads.Asked, emptied-reads.Learnt, narrowed-to-reads.Asked, narrowed-to-reads.Learnt, kept-reads.Asked, kept-reads.Learnt, narrow-yes-below t, narrow-yes.Post, narrow-no-below t, narrow-no.Post, join-both-reads.Asked, join-both-reads.Learnt, narrow-comparison-reads.Asked, narrow-comparison-reads.Learnt) (narrow-no-at t) narrow-no.Post
-narrow-no-join-both-requires t c κs = search needs
+narrow-no-join-regs-requires : (t : ℕ) → narrow-no-lts.Need-join-regs-requires (not-read-reads.Asked, not-read-reads.Learnt, condition-at-reads.Asked, condition-at-reads.Learnt, emptied-reads.Asked, emptied-reads.Learnt, narrowed-to-reads.Asked, narrowed-to-reads.Learnt, kept-reads.Asked, kept-reads.Learnt, narrow-yes-below t, narrow-yes.Post, narrow-no-below t, narrow-no.Post, join-regs-reads.Asked, join-regs-reads.Learnt, join-both-reads.Asked, join-both-reads.Learnt, narrow-comparison-reads.Asked, narrow-comparison-reads.Learnt) (narrow-no-at t) narrow-no.Post
+narrow-no-join-regs-requires t c κs = search needs
 
-narrow-no-enum-known-kind : (t : ℕ) → narrow-no-lts.Need-enum-known-kind (not-read-reads.Asked, not-read-reads.Learnt, condition-at-reads.Asked, condition-at-reads.Learnt, emptied-reads.Asked, emptied-reads.Learnt, narrowed-to-reads.Asked, narrowed-to-reads.Learnt, kept-reads.Asked, kept-reads.Learnt, narrow-yes-below t, narrow-yes.Post, narrow-no-below t, narrow-no.Post, join-both-reads.Asked, join-both-reads.Learnt, narrow-comparison-reads.Asked, narrow-comparison-reads.Learnt) (narrow-no-at t) narrow-no.Post
+narrow-no-join-both-requires : (t : ℕ) → narrow-no-lts.Need-join-both-requires (not-read-reads.Asked, not-read-reads.Learnt, condition-at-reads.Asked, condition-at-reads.Learnt, emptied-reads.Asked, emptied-reads.Learnt, narrowed-to-reads.Asked, narrowed-to-reads.Learnt, kept-reads.Asked, kept-reads.Learnt, narrow-yes-below t, narrow-yes.Post, narrow-no-below t, narrow-no.Post, join-regs-reads.Asked, join-regs-reads.Learnt, join-both-reads.Asked, join-both-reads.Learnt, narrow-comparison-reads.Asked, narrow-comparison-reads.Learnt) (narrow-no-at t) narrow-no.Post
+narrow-no-join-both-requires t c κs = c .join-regs .ensures
+
+narrow-no-enum-known-kind : (t : ℕ) → narrow-no-lts.Need-enum-known-kind (not-read-reads.Asked, not-read-reads.Learnt, condition-at-reads.Asked, condition-at-reads.Learnt, emptied-reads.Asked, emptied-reads.Learnt, narrowed-to-reads.Asked, narrowed-to-reads.Learnt, kept-reads.Asked, kept-reads.Learnt, narrow-yes-below t, narrow-yes.Post, narrow-no-below t, narrow-no.Post, join-regs-reads.Asked, join-regs-reads.Learnt, join-both-reads.Asked, join-both-reads.Learnt, narrow-comparison-reads.Asked, narrow-comparison-reads.Learnt) (narrow-no-at t) narrow-no.Post
 narrow-no-enum-known-kind t c = search needs
 
-narrow-no-add-narrow-comparison : (t : ℕ) → narrow-no-lts.Need-add-narrow-comparison (not-read-reads.Asked, not-read-reads.Learnt, condition-at-reads.Asked, condition-at-reads.Learnt, emptied-reads.Asked, emptied-reads.Learnt, narrowed-to-reads.Asked, narrowed-to-reads.Learnt, kept-reads.Asked, kept-reads.Learnt, narrow-yes-below t, narrow-yes.Post, narrow-no-below t, narrow-no.Post, join-both-reads.Asked, join-both-reads.Learnt, narrow-comparison-reads.Asked, narrow-comparison-reads.Learnt) (narrow-no-at t) narrow-no.Post
+narrow-no-add-narrow-comparison : (t : ℕ) → narrow-no-lts.Need-add-narrow-comparison (not-read-reads.Asked, not-read-reads.Learnt, condition-at-reads.Asked, condition-at-reads.Learnt, emptied-reads.Asked, emptied-reads.Learnt, narrowed-to-reads.Asked, narrowed-to-reads.Learnt, kept-reads.Asked, kept-reads.Learnt, narrow-yes-below t, narrow-yes.Post, narrow-no-below t, narrow-no.Post, join-regs-reads.Asked, join-regs-reads.Learnt, join-both-reads.Asked, join-both-reads.Learnt, narrow-comparison-reads.Asked, narrow-comparison-reads.Learnt) (narrow-no-at t) narrow-no.Post
 narrow-no-add-narrow-comparison t c = let arg = c .before .before .before .before .before .before .args in
     omega (arith, condition-inside (arg .s .now) (arg .end) (arg .at) _ (sym (c .before .before .before .condition-at .ensures) ∙ ap conditionKindOf (c .before .kind .given .1)) (not-comparison _))
 
-narrow-no-sub-narrow-comparison : (t : ℕ) → narrow-no-lts.Need-sub-narrow-comparison (not-read-reads.Asked, not-read-reads.Learnt, condition-at-reads.Asked, condition-at-reads.Learnt, emptied-reads.Asked, emptied-reads.Learnt, narrowed-to-reads.Asked, narrowed-to-reads.Learnt, kept-reads.Asked, kept-reads.Learnt, narrow-yes-below t, narrow-yes.Post, narrow-no-below t, narrow-no.Post, join-both-reads.Asked, join-both-reads.Learnt, narrow-comparison-reads.Asked, narrow-comparison-reads.Learnt) (narrow-no-at t) narrow-no.Post
+narrow-no-sub-narrow-comparison : (t : ℕ) → narrow-no-lts.Need-sub-narrow-comparison (not-read-reads.Asked, not-read-reads.Learnt, condition-at-reads.Asked, condition-at-reads.Learnt, emptied-reads.Asked, emptied-reads.Learnt, narrowed-to-reads.Asked, narrowed-to-reads.Learnt, kept-reads.Asked, kept-reads.Learnt, narrow-yes-below t, narrow-yes.Post, narrow-no-below t, narrow-no.Post, join-regs-reads.Asked, join-regs-reads.Learnt, join-both-reads.Asked, join-both-reads.Learnt, narrow-comparison-reads.Asked, narrow-comparison-reads.Learnt) (narrow-no-at t) narrow-no.Post
 narrow-no-sub-narrow-comparison t c = search needs
 
-narrow-no-narrow-comparison-requires : (t : ℕ) → narrow-no-lts.Need-narrow-comparison-requires (not-read-reads.Asked, not-read-reads.Learnt, condition-at-reads.Asked, condition-at-reads.Learnt, emptied-reads.Asked, emptied-reads.Learnt, narrowed-to-reads.Asked, narrowed-to-reads.Learnt, kept-reads.Asked, kept-reads.Learnt, narrow-yes-below t, narrow-yes.Post, narrow-no-below t, narrow-no.Post, join-both-reads.Asked, join-both-reads.Learnt, narrow-comparison-reads.Asked, narrow-comparison-reads.Learnt) (narrow-no-at t) narrow-no.Post
+narrow-no-narrow-comparison-requires : (t : ℕ) → narrow-no-lts.Need-narrow-comparison-requires (not-read-reads.Asked, not-read-reads.Learnt, condition-at-reads.Asked, condition-at-reads.Learnt, emptied-reads.Asked, emptied-reads.Learnt, narrowed-to-reads.Asked, narrowed-to-reads.Learnt, kept-reads.Asked, kept-reads.Learnt, narrow-yes-below t, narrow-yes.Post, narrow-no-below t, narrow-no.Post, join-regs-reads.Asked, join-regs-reads.Learnt, join-both-reads.Asked, join-both-reads.Learnt, narrow-comparison-reads.Asked, narrow-comparison-reads.Learnt) (narrow-no-at t) narrow-no.Post
 narrow-no-narrow-comparison-requires t c κs = search needs
 
-narrow-no-enum-told-5 : (t : ℕ) → narrow-no-lts.Need-enum-told-5 (not-read-reads.Asked, not-read-reads.Learnt, condition-at-reads.Asked, condition-at-reads.Learnt, emptied-reads.Asked, emptied-reads.Learnt, narrowed-to-reads.Asked, narrowed-to-reads.Learnt, kept-reads.Asked, kept-reads.Learnt, narrow-yes-below t, narrow-yes.Post, narrow-no-below t, narrow-no.Post, join-both-reads.Asked, join-both-reads.Learnt, narrow-comparison-reads.Asked, narrow-comparison-reads.Learnt) (narrow-no-at t) narrow-no.Post
+narrow-no-enum-told-5 : (t : ℕ) → narrow-no-lts.Need-enum-told-5 (not-read-reads.Asked, not-read-reads.Learnt, condition-at-reads.Asked, condition-at-reads.Learnt, emptied-reads.Asked, emptied-reads.Learnt, narrowed-to-reads.Asked, narrowed-to-reads.Learnt, kept-reads.Asked, kept-reads.Learnt, narrow-yes-below t, narrow-yes.Post, narrow-no-below t, narrow-no.Post, join-regs-reads.Asked, join-regs-reads.Learnt, join-both-reads.Asked, join-both-reads.Learnt, narrow-comparison-reads.Asked, narrow-comparison-reads.Learnt) (narrow-no-at t) narrow-no.Post
 narrow-no-enum-told-5 t c = search needs
 
-narrow-no-not-read-requires-2 : (t : ℕ) → narrow-no-lts.Need-not-read-requires-2 (not-read-reads.Asked, not-read-reads.Learnt, condition-at-reads.Asked, condition-at-reads.Learnt, emptied-reads.Asked, emptied-reads.Learnt, narrowed-to-reads.Asked, narrowed-to-reads.Learnt, kept-reads.Asked, kept-reads.Learnt, narrow-yes-below t, narrow-yes.Post, narrow-no-below t, narrow-no.Post, join-both-reads.Asked, join-both-reads.Learnt, narrow-comparison-reads.Asked, narrow-comparison-reads.Learnt) (narrow-no-at t) narrow-no.Post
+narrow-no-not-read-requires-2 : (t : ℕ) → narrow-no-lts.Need-not-read-requires-2 (not-read-reads.Asked, not-read-reads.Learnt, condition-at-reads.Asked, condition-at-reads.Learnt, emptied-reads.Asked, emptied-reads.Learnt, narrowed-to-reads.Asked, narrowed-to-reads.Learnt, kept-reads.Asked, kept-reads.Learnt, narrow-yes-below t, narrow-yes.Post, narrow-no-below t, narrow-no.Post, join-regs-reads.Asked, join-regs-reads.Learnt, join-both-reads.Asked, join-both-reads.Learnt, narrow-comparison-reads.Asked, narrow-comparison-reads.Learnt) (narrow-no-at t) narrow-no.Post
 narrow-no-not-read-requires-2 t c κs = search needs
 
-narrow-no-returns-2 : (t : ℕ) → narrow-no-lts.Need-returns-2 (not-read-reads.Asked, not-read-reads.Learnt, condition-at-reads.Asked, condition-at-reads.Learnt, emptied-reads.Asked, emptied-reads.Learnt, narrowed-to-reads.Asked, narrowed-to-reads.Learnt, kept-reads.Asked, kept-reads.Learnt, narrow-yes-below t, narrow-yes.Post, narrow-no-below t, narrow-no.Post, join-both-reads.Asked, join-both-reads.Learnt, narrow-comparison-reads.Asked, narrow-comparison-reads.Learnt) (narrow-no-at t) narrow-no.Post
+narrow-no-returns-2 : (t : ℕ) → narrow-no-lts.Need-returns-2 (not-read-reads.Asked, not-read-reads.Learnt, condition-at-reads.Asked, condition-at-reads.Learnt, emptied-reads.Asked, emptied-reads.Learnt, narrowed-to-reads.Asked, narrowed-to-reads.Learnt, kept-reads.Asked, kept-reads.Learnt, narrow-yes-below t, narrow-yes.Post, narrow-no-below t, narrow-no.Post, join-regs-reads.Asked, join-regs-reads.Learnt, join-both-reads.Asked, join-both-reads.Learnt, narrow-comparison-reads.Asked, narrow-comparison-reads.Learnt) (narrow-no-at t) narrow-no.Post
 unfolding narrowYes
 narrow-no-returns-2 t c = let arg = c .before .before .before .before .before .before .before .args in
     c .narrowed-to .ensures (arg .n) ∙ ap (λ (o : Option Regs). read o (arg .at + 1)) (c .before .emptied .ensures (arg .n)) ∙ ap (noIn (regsOf (arg .n) (arg .regs))) (at-leaf (arg .s .now) (arg .end) (arg .n) (arg .at) (arg .depth) (c .before .before .before .before .before .if1 .left) always (sym (c .before .before .before .before .condition-at .ensures) ∙ ap conditionKindOf (c .before .before .enum-told .given .1)))
 
-narrow-no-returns-3 : (t : ℕ) → narrow-no-lts.Need-returns-3 (not-read-reads.Asked, not-read-reads.Learnt, condition-at-reads.Asked, condition-at-reads.Learnt, emptied-reads.Asked, emptied-reads.Learnt, narrowed-to-reads.Asked, narrowed-to-reads.Learnt, kept-reads.Asked, kept-reads.Learnt, narrow-yes-below t, narrow-yes.Post, narrow-no-below t, narrow-no.Post, join-both-reads.Asked, join-both-reads.Learnt, narrow-comparison-reads.Asked, narrow-comparison-reads.Learnt) (narrow-no-at t) narrow-no.Post
+narrow-no-returns-3 : (t : ℕ) → narrow-no-lts.Need-returns-3 (not-read-reads.Asked, not-read-reads.Learnt, condition-at-reads.Asked, condition-at-reads.Learnt, emptied-reads.Asked, emptied-reads.Learnt, narrowed-to-reads.Asked, narrowed-to-reads.Learnt, kept-reads.Asked, kept-reads.Learnt, narrow-yes-below t, narrow-yes.Post, narrow-no-below t, narrow-no.Post, join-regs-reads.Asked, join-regs-reads.Learnt, join-both-reads.Asked, join-both-reads.Learnt, narrow-comparison-reads.Asked, narrow-comparison-reads.Learnt) (narrow-no-at t) narrow-no.Post
 unfolding narrowYes
 narrow-no-returns-3 t c = let arg = c .before .before .before .before .before .before .before .args in
     c .narrowed-to2 .ensures (arg .n) ∙ ap (λ (o : Option Regs). read o (arg .at + 1)) (c .before .kept .ensures (arg .n)) ∙ ap (noIn (regsOf (arg .n) (arg .regs))) (at-leaf (arg .s .now) (arg .end) (arg .n) (arg .at) (arg .depth) (c .before .before .before .before .before .if1 .left) never (sym (c .before .before .before .before .condition-at .ensures) ∙ ap conditionKindOf (c .before .before .enum-told2 .given .1)))
 
-narrow-no-returns-4 : (t : ℕ) → narrow-no-lts.Need-returns-4 (not-read-reads.Asked, not-read-reads.Learnt, condition-at-reads.Asked, condition-at-reads.Learnt, emptied-reads.Asked, emptied-reads.Learnt, narrowed-to-reads.Asked, narrowed-to-reads.Learnt, kept-reads.Asked, kept-reads.Learnt, narrow-yes-below t, narrow-yes.Post, narrow-no-below t, narrow-no.Post, join-both-reads.Asked, join-both-reads.Learnt, narrow-comparison-reads.Asked, narrow-comparison-reads.Learnt) (narrow-no-at t) narrow-no.Post
+narrow-no-returns-4 : (t : ℕ) → narrow-no-lts.Need-returns-4 (not-read-reads.Asked, not-read-reads.Learnt, condition-at-reads.Asked, condition-at-reads.Learnt, emptied-reads.Asked, emptied-reads.Learnt, narrowed-to-reads.Asked, narrowed-to-reads.Learnt, kept-reads.Asked, kept-reads.Learnt, narrow-yes-below t, narrow-yes.Post, narrow-no-below t, narrow-no.Post, join-regs-reads.Asked, join-regs-reads.Learnt, join-both-reads.Asked, join-both-reads.Learnt, narrow-comparison-reads.Asked, narrow-comparison-reads.Learnt) (narrow-no-at t) narrow-no.Post
 narrow-no-returns-4 t c = let arg = c .before .before .before .before .before .before .args in
     c .narrow-yes .ensures ∙ negation-found (λ k. narrowYes k (regsOf (arg .n) (arg .regs))) (λ k. narrowNo k (regsOf (arg .n) (arg .regs))) (λ k. no-negation k (regsOf (arg .n) (arg .regs))) (readCondition (arg .depth - 1) (arg .s .now) (arg .end) (arg .n) (arg .at + 1)) ∙ ap (noIn (regsOf (arg .n) (arg .regs))) (at-negation (arg .s .now) (arg .end) (arg .n) (arg .at) (arg .depth) (c .before .before .before .before .if1 .left) (sym (c .before .before .before .condition-at .ensures) ∙ ap conditionKindOf (c .before .enum-told3 .given .1)))
 
-narrow-no-returns-5 : (t : ℕ) → narrow-no-lts.Need-returns-5 (not-read-reads.Asked, not-read-reads.Learnt, condition-at-reads.Asked, condition-at-reads.Learnt, emptied-reads.Asked, emptied-reads.Learnt, narrowed-to-reads.Asked, narrowed-to-reads.Learnt, kept-reads.Asked, kept-reads.Learnt, narrow-yes-below t, narrow-yes.Post, narrow-no-below t, narrow-no.Post, join-both-reads.Asked, join-both-reads.Learnt, narrow-comparison-reads.Asked, narrow-comparison-reads.Learnt) (narrow-no-at t) narrow-no.Post
-narrow-no-returns-5 t c = let arg = c .before .before .before .before .before .before .before .before .args in
-    c .join-both .ensures (arg .n) ∙ conjunction-no (arg .s .now) (arg .end) (arg .n) (arg .at + 1) (arg .depth - 1) (regsOf (arg .n) (arg .regs)) (c .before .before .narrow-no .result .read) (unlessFlagged (c .before .before .narrow-no .result .empty) (regsOf (arg .n) (c .before .before .narrow-no .result .regs))) (c .before .before .narrow-no .result .next) _ (c .before .before .narrow-no .ensures) (c .before .narrow-no2 .ensures) ∙ ap (noIn (regsOf (arg .n) (arg .regs))) (at-conjunction (arg .s .now) (arg .end) (arg .n) (arg .at) (arg .depth) (c .before .before .before .before .before .before .if1 .left) (sym (c .before .before .before .before .before .condition-at .ensures) ∙ ap conditionKindOf (c .before .before .before .enum-told4 .given .1)))
+narrow-no-returns-5 : (t : ℕ) → narrow-no-lts.Need-returns-5 (not-read-reads.Asked, not-read-reads.Learnt, condition-at-reads.Asked, condition-at-reads.Learnt, emptied-reads.Asked, emptied-reads.Learnt, narrowed-to-reads.Asked, narrowed-to-reads.Learnt, kept-reads.Asked, kept-reads.Learnt, narrow-yes-below t, narrow-yes.Post, narrow-no-below t, narrow-no.Post, join-regs-reads.Asked, join-regs-reads.Learnt, join-both-reads.Asked, join-both-reads.Learnt, narrow-comparison-reads.Asked, narrow-comparison-reads.Learnt) (narrow-no-at t) narrow-no.Post
+narrow-no-returns-5 t c = let arg = c .before .before .before .before .before .before .before .before .before .before .before .args in
+    c .join-both .ensures (arg .n) ∙ conjunction-no (arg .s .now) (arg .end) (arg .n) (arg .at + 1) (arg .depth - 1) (regsOf (arg .n) (arg .regs)) (c .before .before .before .before .before .narrow-no .result .read) (unlessFlagged (c .before .before .before .before .before .narrow-no .result .empty) (regsOf (arg .n) (c .before .before .before .before .before .narrow-no .result .regs))) (c .before .before .before .before .before .narrow-no .result .next) _ (c .before .before .before .before .before .narrow-no .ensures) (c .before .before .before .narrow-no2 .ensures) ∙ ap (noIn (regsOf (arg .n) (arg .regs))) (at-conjunction (arg .s .now) (arg .end) (arg .n) (arg .at) (arg .depth) (c .before .before .before .before .before .before .before .before .before .if1 .left) (sym (c .before .before .before .before .before .before .before .before .condition-at .ensures) ∙ ap conditionKindOf (c .before .before .before .before .before .before .enum-told4 .given .1)))
 
-narrow-no-returns-6 : (t : ℕ) → narrow-no-lts.Need-returns-6 (not-read-reads.Asked, not-read-reads.Learnt, condition-at-reads.Asked, condition-at-reads.Learnt, emptied-reads.Asked, emptied-reads.Learnt, narrowed-to-reads.Asked, narrowed-to-reads.Learnt, kept-reads.Asked, kept-reads.Learnt, narrow-yes-below t, narrow-yes.Post, narrow-no-below t, narrow-no.Post, join-both-reads.Asked, join-both-reads.Learnt, narrow-comparison-reads.Asked, narrow-comparison-reads.Learnt) (narrow-no-at t) narrow-no.Post
+narrow-no-returns-6 : (t : ℕ) → narrow-no-lts.Need-returns-6 (not-read-reads.Asked, not-read-reads.Learnt, condition-at-reads.Asked, condition-at-reads.Learnt, emptied-reads.Asked, emptied-reads.Learnt, narrowed-to-reads.Asked, narrowed-to-reads.Learnt, kept-reads.Asked, kept-reads.Learnt, narrow-yes-below t, narrow-yes.Post, narrow-no-below t, narrow-no.Post, join-regs-reads.Asked, join-regs-reads.Learnt, join-both-reads.Asked, join-both-reads.Learnt, narrow-comparison-reads.Asked, narrow-comparison-reads.Learnt) (narrow-no-at t) narrow-no.Post
 narrow-no-returns-6 t c = let arg = c .before .before .before .before .before .before .before .args in
     c .narrow-comparison .ensures ∙ ap (noIn (regsOf (arg .n) (arg .regs))) (at-comparison (arg .s .now) (arg .end) (arg .n) (arg .at) (arg .depth) (c .before .before .before .before .before .if1 .left) (relationOf (c .before .before .kind .given .0 .0)) (sym (c .before .before .before .before .condition-at .ensures) ∙ ap conditionKindOf (c .before .before .kind .given .1)))
 
-narrow-no-returns-7 : (t : ℕ) → narrow-no-lts.Need-returns-7 (not-read-reads.Asked, not-read-reads.Learnt, condition-at-reads.Asked, condition-at-reads.Learnt, emptied-reads.Asked, emptied-reads.Learnt, narrowed-to-reads.Asked, narrowed-to-reads.Learnt, kept-reads.Asked, kept-reads.Learnt, narrow-yes-below t, narrow-yes.Post, narrow-no-below t, narrow-no.Post, join-both-reads.Asked, join-both-reads.Learnt, narrow-comparison-reads.Asked, narrow-comparison-reads.Learnt) (narrow-no-at t) narrow-no.Post
+narrow-no-returns-7 : (t : ℕ) → narrow-no-lts.Need-returns-7 (not-read-reads.Asked, not-read-reads.Learnt, condition-at-reads.Asked, condition-at-reads.Learnt, emptied-reads.Asked, emptied-reads.Learnt, narrowed-to-reads.Asked, narrowed-to-reads.Learnt, kept-reads.Asked, kept-reads.Learnt, narrow-yes-below t, narrow-yes.Post, narrow-no-below t, narrow-no.Post, join-regs-reads.Asked, join-regs-reads.Learnt, join-both-reads.Asked, join-both-reads.Learnt, narrow-comparison-reads.Asked, narrow-comparison-reads.Learnt) (narrow-no-at t) narrow-no.Post
 narrow-no-returns-7 t c = let arg = c .before .before .before .before .before .before .args in
     c .not-read2 .ensures (arg .n) ∙ ap (noIn (regsOf (arg .n) (arg .regs))) (at-unknown-condition (arg .s .now) (arg .end) (arg .n) (arg .at) (arg .depth) (c .before .before .before .before .if1 .left) (sym (c .before .before .before .condition-at .ensures) ∙ ap conditionKindOf (c .before .enum-told5 .given .1)))
 
@@ -288,7 +292,7 @@ narrow-yes-returns-7 t c = let arg = c .before .before .before .before .before .
     c .not-read2 .ensures (arg .n) ∙ ap (yesIn (regsOf (arg .n) (arg .regs))) (at-unknown-condition (arg .s .now) (arg .end) (arg .n) (arg .at) (arg .depth) (c .before .before .before .before .if1 .left) (sym (c .before .before .before .condition-at .ensures) ∙ ap conditionKindOf (c .before .enum-told5 .given .1)))
 
 pub +narrow-no+narrow-yes-spec : {M : Type 1} → statement M
-+narrow-no+narrow-yes-spec = close μ-narrow-no μ-narrow-yes (λ t. narrow-no-lts.spec (not-read-reads.Asked, not-read-reads.Learnt, condition-at-reads.Asked, condition-at-reads.Learnt, emptied-reads.Asked, emptied-reads.Learnt, narrowed-to-reads.Asked, narrowed-to-reads.Learnt, kept-reads.Asked, kept-reads.Learnt, narrow-yes-below t, narrow-yes.Post, narrow-no-below t, narrow-no.Post, join-both-reads.Asked, join-both-reads.Learnt, narrow-comparison-reads.Asked, narrow-comparison-reads.Learnt)
++narrow-no+narrow-yes-spec = close μ-narrow-no μ-narrow-yes (λ t. narrow-no-lts.spec (not-read-reads.Asked, not-read-reads.Learnt, condition-at-reads.Asked, condition-at-reads.Learnt, emptied-reads.Asked, emptied-reads.Learnt, narrowed-to-reads.Asked, narrowed-to-reads.Learnt, kept-reads.Asked, kept-reads.Learnt, narrow-yes-below t, narrow-yes.Post, narrow-no-below t, narrow-no.Post, join-regs-reads.Asked, join-regs-reads.Learnt, join-both-reads.Asked, join-both-reads.Learnt, narrow-comparison-reads.Asked, narrow-comparison-reads.Learnt)
     (narrow-no-at t)
     narrow-no.Post
     (narrow-no-not-read-requires t)
@@ -312,6 +316,7 @@ pub +narrow-no+narrow-yes-spec : {M : Type 1} → statement M
     (narrow-no-narrow-no-requires t)
     (narrow-no-sub-narrow-no-2 t)
     (narrow-no-narrow-no-requires-2 t)
+    (narrow-no-join-regs-requires t)
     (narrow-no-join-both-requires t)
     (narrow-no-enum-known-kind t)
     (narrow-no-add-narrow-comparison t)

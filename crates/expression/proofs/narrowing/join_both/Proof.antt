@@ -19,9 +19,6 @@ returns-2 : tie.Need-returns-2
 unfolding joinBoth
 returns-2 c = λ n. c .narrowed-to .ensures n ∙ rw (c .before .kept .ensures n, c .before .before .before .before .before .if1 .taken, c .before .before .before .before .if2 .taken, c .before .before .before .if3 .left, c .before .before .if4 .taken)
 
-join-regs-requires : tie.Need-join-regs-requires
-join-regs-requires c κs = search needs
-
 kept-requires-2 : tie.Need-kept-requires-2
 kept-requires-2 c κs = search needs
 
@@ -30,7 +27,7 @@ narrowed-to-requires-2 c κs = search needs
 
 returns-3 : tie.Need-returns-3
 unfolding joinBoth
-returns-3 c = λ n. c .narrowed-to2 .ensures n ∙ rw (c .before .kept2 .ensures n, c .before .before .join-regs .ensures n, c .before .before .before .before .before .before .if1 .taken, c .before .before .before .before .before .if2 .taken, c .before .before .before .before .if3 .left, c .before .before .before .if4 .left)
+returns-3 c = λ n. c .narrowed-to2 .ensures n ∙ rw (c .before .kept2 .ensures n, c .before .before .before .before .before .before .before .pre n, c .before .before .before .before .before .if1 .taken, c .before .before .before .before .if2 .taken, c .before .before .before .if3 .left, c .before .before .if4 .left)
 
 not-read-requires : tie.Need-not-read-requires
 not-read-requires c κs = search needs
@@ -52,7 +49,6 @@ join-both-spec =
     kept-requires
     narrowed-to-requires
     returns-2
-    join-regs-requires
     kept-requires-2
     narrowed-to-requires-2
     returns-3

@@ -5,18 +5,18 @@ use Rattle.reader.proofs.statements.Laws.{first-any, later-any}
 use Rattle.reader.proofs.statements.statement_here.Statement.{statement}
 use Rattle.reader.proofs.statements.statement_here.Tie as tie
 
-first-here-requires : tie.Need-first-here-requires
-first-here-requires c κs = search needs
-
-returns : tie.Need-returns
-returns c = c .first-here .ensures ∙ first-any _ _ _ (c .before .if1 .taken)
-
 later-here-requires : tie.Need-later-here-requires
 later-here-requires c κs = search needs
 
+returns : tie.Need-returns
+returns c = c .later-here .ensures ∙ later-any _ _ _ (c .before .if1 .taken)
+
+first-here-requires : tie.Need-first-here-requires
+first-here-requires c κs = search needs
+
 returns-2 : tie.Need-returns-2
-returns-2 c = c .later-here .ensures ∙ later-any _ _ _ (c .before .if1 .left)
+returns-2 c = c .first-here .ensures ∙ first-any _ _ _ (c .before .if1 .left)
 
 pub statement-here-spec : {M : Type 1} → statement M
 statement-here-spec =
-    tie.close (tie.spec first-here-requires returns later-here-requires returns-2)
+    tie.close (tie.spec later-here-requires returns first-here-requires returns-2)
