@@ -23,10 +23,7 @@ use Rattle.rules.proofs.Format.{If, many-if, variables-ordered}
 use Rattle.reader.specs.declared.threads.ThreadEntry.{ThreadEntry}
 use Rattle.reader.specs.declared.Index.{Index}
 use Rattle.reader.specs.Index.{placesOf, layPlaces, noPlaces, noEntry, entryOf, entriesOf, refusedIndex, indexOf}
-<<<<<<< HEAD
-=======
 use Rattle.reader.specs.Decoded.{statementAt, statementOf}
->>>>>>> main
 use Rattle.reader.specs.Facts.{threadIn, statementIn, namesIn, ranges, Ordered, Targets, StatementFacts, ThreadFacts, HeaderFacts, ProgramFacts, IndexFacts}
 use Rattle.reader.proofs.IfAt.{IfAt, need-at, then-at, sized-at, due-at, any-at, plain, both-at, weaker-at, with-reading, when-got, many-at, many-few}
 use Rattle.reader.proofs.Loops.{map-length}
@@ -154,8 +151,6 @@ module _ {s : Bytes} {g : Program} (f : ProgramFacts s g) (t : ℕ) (r : t < len
   pub target-in : (k : ℕ) → k < length (threadIn g t .statements) → Targets (length (threadIn g t .statements)) (statementIn g t k .action)
   target-in k b = each-get (λ x. Targets (length (threadIn g t .statements)) (x .action)) (threadIn g t .statements) k noStatement (thread-in .targets) b
 
-<<<<<<< HEAD
-=======
   -- a statement that is not halt has one behind it
   pub next-in : (k : ℕ) → k < length (threadIn g t .statements) → isHalt (statementIn g t k .action) ≡ false → k + 1 < length (threadIn g t .statements)
   next-in k b h = by (ltb (k + 1) (length (threadIn g t .statements))) refl
@@ -169,7 +164,6 @@ module _ {s : Bytes} {g : Program} (f : ProgramFacts s g) (t : ℕ) (r : t < len
           subst (λ (j : ℕ). isHalt (getD (threadIn g t .statements) j noStatement .action) ≡ true) last (thread-in .last-halts) in
           let z : _≡_ {A = ℕ} 0 1 = cc in absurd (omega arith)
 
->>>>>>> main
 -- ---- a table, element by element
 
 module _ {B : Type 0} (d : B) where
