@@ -239,7 +239,7 @@ unfolding stackOf
 goes-from g slots budget b₀ c₀ b height steps w s room sound e at =
     let z = sizesOf g in
     let p : statesOf z (stackOf 1 c₀) ≡ stateOf z s ∷ [] =
-        ap (λ (l : List ℤ). statesOf z (stackOf 1 l)) e ∙ push-states z b₀ 0 s (omega arith) sound ∙ ap (λ (xs : List S.State). stateOf z s ∷ xs) (states-nil z) in
+    ap (λ (l : List ℤ). statesOf z (stackOf 1 l)) e ∙ push-states z b₀ 0 s (omega arith) sound ∙ ap (λ (xs : List S.State). stateOf z s ∷ xs) (states-nil z) in
     record {
       in-budget = at .in-budget;
       in-slots = at .in-slots;
@@ -259,13 +259,13 @@ module _ (s : Bytes) (i : Index) (h : i ≡ indexOf (readSheet s)) (fine : i .re
       let a = accepted (readSheet s) h fine in
       let f = index-facts (a .0) (a .1) h (a .2) in
       subst (λ (g : Program). Planned s g (record { threads = i .threads; limit = i .limit; entries = i .entries }) (i .places)) (sym (program-is s (a .0) (a .1) (a .2)))
-        (record {
-          facts = program-facts s (a .0) (a .1) (a .2);
-          threads = f .threads;
-          limit = f .limit;
-          entries = f .entries;
-          places-are = f .places;
-        })
+      (record {
+        facts = program-facts s (a .0) (a .1) (a .2);
+        threads = f .threads;
+        limit = f .limit;
+        entries = f .entries;
+        places-are = f .places;
+      })
 
   pub from-first : (slots : ℕ) (first : State) → ((g : Program) (e : ℕ) → readSheet s ≡ got g e → stateOf (sizesOf g) first ≡ start g)
       → search (i .budget) (programIn s) slots (stateOf (sizesOf (programIn s)) first ∷ []) unseen 0 ≡ searchFrom (programIn s) slots
@@ -275,5 +275,5 @@ module _ (s : Bytes) (i : Index) (h : i ≡ indexOf (readSheet s)) (fine : i .re
       let g = a .0 in
       let f = index-facts g (a .1) h (a .2) in
       subst (λ (p : Program). search (i .budget) p slots (stateOf (sizesOf p) first ∷ []) unseen 0 ≡ searchFrom p slots) (sym (program-is s g (a .1) (a .2)))
-        (ap (λ (n : ℕ). search n g slots (stateOf (sizesOf g) first ∷ []) unseen 0) (f .budget)
-        ∙ ap (λ (y : S.State). search (g .header .budget) g slots (y ∷ []) unseen 0) (starts g (a .1) (a .2)))
+      (ap (λ (n : ℕ). search n g slots (stateOf (sizesOf g) first ∷ []) unseen 0) (f .budget)
+      ∙ ap (λ (y : S.State). search (g .header .budget) g slots (y ∷ []) unseen 0) (starts g (a .1) (a .2)))

@@ -32,14 +32,14 @@ abbrev μ-loop : tie.MeasureT-loop
 -- the invariant from the first state on
 head : (c : tie.At-loop Inv-loop μ-loop) → (let arg = c .before .before .before .before .before .args in
     Goes (S.search (arg .budget) (programIn (arg .sheet .now)) (arg .slots) (stateOf (sizesOf (programIn (arg .sheet .now))) (arg .first) ∷ []) unseen 0)
-      (programIn (arg .sheet .now)) (arg .slots) (arg .budget) (length (arg .work .now)) (c .loop .work) (c .loop .height) (c .loop .steps) (windowOf (c .loop .w)))
+    (programIn (arg .sheet .now)) (arg .slots) (arg .budget) (length (arg .work .now)) (c .loop .work) (c .loop .height) (c .loop .steps) (windowOf (c .loop .w)))
 head c =
     let s = c .before .before .before .before .before in
     let arg = s .args in
     let room = s .pre .1 .1 .0 in
     let one = s .pre .1 .1 .1 in
     goes-from (programIn (arg .sheet .now)) (arg .slots) (arg .budget) (arg .work .now) (c .before .before .store .last .0) (c .loop .work) (c .loop .height) (c .loop .steps) (windowOf (c .loop .w))
-      (arg .first) (omega arith) (sound-of (arg .first) (s .good .1 .1 .1 .0 .0) (s .good .1 .1 .1 .0 .1 .1)) (c .before .before .store .ensures) (c .loop .inv)
+    (arg .first) (omega arith) (sound-of (arg .first) (s .good .1 .1 .1 .0 .0) (s .good .1 .1 .1 .0 .1 .1)) (c .before .before .store .ensures) (c .loop .inv)
 
 -- src/run.rt:64:5
 store-requires : tie.Need-store-requires Inv-loop μ-loop
@@ -90,9 +90,11 @@ returns-2 c = let arg = c .before .before .before .before .before .before .befor
     let low = c .before .before .before .before .before .before .before .before .before .loop-test .taken in
     let at = head h .in-budget in
     let more = c .before .before .before .before .before .before .before .before .if1 .left in
-    let t = c .before .before .before .before .turn in
-    (sym (goes-refused (programIn (arg .sheet .now)) (arg .slots) (arg .budget) (length (arg .work .now)) (h .loop .work) (h .loop .height) (h .loop .steps) (windowOf (h .loop .w)) (head h)
-      (c .before .before .before .before .before .before .load .result) (omega arith) (omega arith) (c .before .before .before .before .before .before .load .ensures .0) (t .last .1 .1 .1 .1 .0) (t .result) (t .ensures) (c .before .r .given .0 .0) (c .before .r .given .0 .1 .0) (c .before .r .given .1)), c .before .before .before .before .turn .kept .1 .1 .1 .1 .0 ∙ head h .sized)
+    let t = c .before .before .before .before .turn in (
+      sym (goes-refused (programIn (arg .sheet .now)) (arg .slots) (arg .budget) (length (arg .work .now)) (h .loop .work) (h .loop .height) (h .loop .steps) (windowOf (h .loop .w)) (head h)
+          (c .before .before .before .before .before .before .load .result) (omega arith) (omega arith) (c .before .before .before .before .before .before .load .ensures .0) (t .last .1 .1 .1 .1 .0) (t .result) (t .ensures) (c .before .r .given .0 .0) (c .before .r .given .0 .1 .0) (c .before .r .given .1)),
+      c .before .before .before .before .turn .kept .1 .1 .1 .1 .0 ∙ head h .sized,
+    )
 
 -- src/run.rt:83:27
 enum-known-a : tie.Need-enum-known-a Inv-loop μ-loop
@@ -115,7 +117,7 @@ loop-again c = let arg = c .before .before .before .before .before .before .befo
     let more = c .before .before .before .before .before .before .before .before .before .if1 .left in
     let t = c .before .before .before .before .before .turn in
     goes-ended (programIn (arg .sheet .now)) (arg .slots) (arg .budget) (length (c .before .before .before .before .before .before .before .before .before .before .before .before .before .store .last .0)) (h .loop .work) (h .loop .height) (h .loop .steps) (windowOf (h .loop .w)) (h .loop .inv)
-      (c .before .before .before .before .before .before .before .load .result) (omega arith) (omega arith) (c .before .before .before .before .before .before .before .load .ensures .0) (t .last .1 .1 .1 .1 .0) (t .result) (t .ensures) (c .before .before .a .given .0 .0) (c .before .before .a .given .0 .1 .0) (windowOf (c .widen .result)) (c .before .before .a .given .1) (c .widen .ensures)
+    (c .before .before .before .before .before .before .before .load .result) (omega arith) (omega arith) (c .before .before .before .before .before .before .before .load .ensures .0) (t .last .1 .1 .1 .1 .0) (t .result) (t .ensures) (c .before .before .a .given .0 .0) (c .before .before .a .given .0 .1 .0) (windowOf (c .widen .result)) (c .before .before .a .given .1) (c .widen .ensures)
 
 -- src/run.rt:86:28
 enum-known-h : tie.Need-enum-known-h Inv-loop μ-loop
@@ -132,9 +134,11 @@ returns-3 c = let arg = c .before .before .before .before .before .before .befor
     let low = c .before .before .before .before .before .before .before .before .before .before .loop-test .taken in
     let at = head h .in-budget in
     let more = c .before .before .before .before .before .before .before .before .before .if1 .left in
-    let t = c .before .before .before .before .before .turn in
-    (sym (goes-full (programIn (arg .sheet .now)) (arg .slots) (arg .budget) (length (arg .work .now)) (h .loop .work) (h .loop .height) (h .loop .steps) (windowOf (h .loop .w)) (head h)
-      (c .before .before .before .before .before .before .before .load .result) (omega arith) (omega arith) (c .before .before .before .before .before .before .before .load .ensures .0) (t .last .1 .1 .1 .1 .0) (t .result) (t .ensures) (c .before .before .h .given .0 .0) (c .before .before .h .given .1) (c .if2 .taken)), c .before .before .before .before .before .turn .kept .1 .1 .1 .1 .0 ∙ head h .sized)
+    let t = c .before .before .before .before .before .turn in (
+      sym (goes-full (programIn (arg .sheet .now)) (arg .slots) (arg .budget) (length (arg .work .now)) (h .loop .work) (h .loop .height) (h .loop .steps) (windowOf (h .loop .w)) (head h)
+          (c .before .before .before .before .before .before .before .load .result) (omega arith) (omega arith) (c .before .before .before .before .before .before .before .load .ensures .0) (t .last .1 .1 .1 .1 .0) (t .result) (t .ensures) (c .before .before .h .given .0 .0) (c .before .before .h .given .1) (c .if2 .taken)),
+      c .before .before .before .before .before .turn .kept .1 .1 .1 .1 .0 ∙ head h .sized,
+    )
 
 -- src/run.rt:72:5
 loop-less-2 : tie.Need-loop-less-2 Inv-loop μ-loop
@@ -149,7 +153,7 @@ loop-again-2 c = let arg = c .before .before .before .before .before .before .be
     let more = c .before .before .before .before .before .before .before .before .before .if1 .left in
     let t = c .before .before .before .before .before .turn in
     goes-on (programIn (arg .sheet .now)) (arg .slots) (arg .budget) (length (c .before .before .before .before .before .before .before .before .before .before .before .before .before .store .last .0)) (h .loop .work) (h .loop .height) (h .loop .steps) (windowOf (h .loop .w)) (h .loop .inv)
-      (c .before .before .before .before .before .before .before .load .result) (omega arith) (omega arith) (c .before .before .before .before .before .before .before .load .ensures .0) (t .last .1 .1 .1 .1 .0) (t .result) (t .ensures) (c .before .before .h .given .0 .0) (c .before .before .h .given .1) (c .if2 .left)
+    (c .before .before .before .before .before .before .before .load .result) (omega arith) (omega arith) (c .before .before .before .before .before .before .before .load .ensures .0) (t .last .1 .1 .1 .1 .0) (t .result) (t .ensures) (c .before .before .h .given .0 .0) (c .before .before .h .given .1) (c .if2 .left)
 
 -- src/run.rt:59:1
 same-length-4 : tie.Need-same-length-4 Inv-loop μ-loop

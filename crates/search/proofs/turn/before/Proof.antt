@@ -69,6 +69,7 @@ add-greater c = let st = c .before .before .before .before .before .before .befo
     let low = st .pre .1 .1 .0 .timed (a .t) (omega arith) .low in
     let least = c .before .before .before .before .fetch .ensures .least-small in
     record { fits = omega arith }
+
 -- src/turn.rt:93:9
 greater-requires : tie.Need-greater-requires
 greater-requires c κs = search needs
@@ -93,6 +94,7 @@ act-requires c κs = let st = c .before .before .before .before .before .before 
     let sound = sound-of (a .t4) (st .good .1 .1 .1 .0 .0) (st .good .1 .1 .1 .0 .1 .1) in
     let low = c .before .before .if2 .left in
     act-asks (a .sheet .now) g (a .plan) (a .places .now) (st .pre .0) (a .t4) (a .t) (st .pre .1 .0) (c .before .before .before .greater .result) (a .bound) (c .before .before .before .before .before .before .before .before .fetch .result) (c .before .before .before .before .before .before .before .before .fetch .ensures) (st .pre .1 .1 .0) (omega arith) (st .pre .1 .1 .1 .0) (a .work .now) (a .slots) (a .height) (st .pre .1 .1 .1 .1 .1 .0) (st .pre .1 .1 .1 .1 .1 .1) (c .before .event .result) (c .before .event .ensures)
+
 -- src/turn.rt:99:5
 over-requires : tie.Need-over-requires
 over-requires c κs = search needs
@@ -110,9 +112,11 @@ returns-3 c = let st = c .before .before .before .before .before .before .before
     let low = c .before .before .before .before .before .if2 .left in
     let x = statementIn g (a .t) (threadAt (a .t4) (a .t) .at) in
     let v = c .before .before .before .before .event .result in
-    let acts = c .before .before .act .ensures x (subst (λ (w : Event). Fetches (a .sheet .now) (namesOf g (w .thread)) (threadAt (a .t4) (w .thread) .at) x (c .before .before .before .before .before .before .before .before .before .before .before .fetch .result)) (sym (c .before .before .before .before .event .ensures)) (c .before .before .before .before .before .before .before .before .before .before .before .fetch .ensures)) in
-    ((λ b h e k. event-makes (a .sheet .now) g (a .plan) (a .places .now) (st .pre .0) (a .t4) (a .t) (st .pre .1 .0) (c .before .before .before .before .before .before .greater .result) (a .bound) (c .before .before .before .before .before .before .before .before .before .before .before .fetch .result) (c .before .before .before .before .before .before .before .before .before .before .before .fetch .ensures) (sound .four) (a .latest) (sym (c .before .before .before .before .before .before .before .before .before .before .is-halt .ensures) ∙ c .before .before .before .before .before .before .before .before .before .if1 .left) (c .before .before .before .before .before .before .greater .ensures) (omega arith) (a .slots) (a .work .now) (c .before .before .act .last .1 .1 .1 .1 .0) (a .height) v (c .before .before .before .before .event .ensures) (c .before .before .act .result) acts b h (a .later) (c .over .result) e (c .over .ensures) k),
-    acts-length (sizesOf g) (a .slots) (a .work .now) (c .before .before .act .last .1 .1 .1 .1 .0) (a .height) (c .before .before .act .result) (effect (stateOf (sizesOf g) (a .t4)) (v .thread) (threadOf (v .registers) (threadAt (a .t4) (v .thread))) (v .from .0) (v .to .0) (x .action)) acts)
+    let acts = c .before .before .act .ensures x (subst (λ (w : Event). Fetches (a .sheet .now) (namesOf g (w .thread)) (threadAt (a .t4) (w .thread) .at) x (c .before .before .before .before .before .before .before .before .before .before .before .fetch .result)) (sym (c .before .before .before .before .event .ensures)) (c .before .before .before .before .before .before .before .before .before .before .before .fetch .ensures)) in (
+      (λ b h e k. event-makes (a .sheet .now) g (a .plan) (a .places .now) (st .pre .0) (a .t4) (a .t) (st .pre .1 .0) (c .before .before .before .before .before .before .greater .result) (a .bound) (c .before .before .before .before .before .before .before .before .before .before .before .fetch .result) (c .before .before .before .before .before .before .before .before .before .before .before .fetch .ensures) (sound .four) (a .latest) (sym (c .before .before .before .before .before .before .before .before .before .before .is-halt .ensures) ∙ c .before .before .before .before .before .before .before .before .before .if1 .left) (c .before .before .before .before .before .before .greater .ensures) (omega arith) (a .slots) (a .work .now) (c .before .before .act .last .1 .1 .1 .1 .0) (a .height) v (c .before .before .before .before .event .ensures) (c .before .before .act .result) acts b h (a .later) (c .over .result) e (c .over .ensures) k),
+      acts-length (sizesOf g) (a .slots) (a .work .now) (c .before .before .act .last .1 .1 .1 .1 .0) (a .height) (c .before .before .act .result) (effect (stateOf (sizesOf g) (a .t4)) (v .thread) (threadOf (v .registers) (threadAt (a .t4) (v .thread))) (v .from .0) (v .to .0) (x .action)) acts,
+    )
+
 pub before-spec : {M : Type 1} → statement M
 before-spec =
     tie.close
