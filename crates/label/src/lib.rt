@@ -44,11 +44,27 @@ fn refused(refusal: u32, place: usize, steps: u32) -> Answer
     }
 }
 
+// An answer with a window.
+fn five(refusal: u32, steps: u32, low: u32, high: u32) -> Answer
+    ensures { λ r. ⌜ r ≡ fiveOf refusal 0 steps low high ⌝ }
+{
+    Answer {
+        refusal: refusal,
+        place: 0,
+        steps: steps,
+        low: low,
+        high: high,
+    }
+}
+
 // Whether the window lies inside the label.
 fn inside(from: u32, to: u32, w: Window) -> bool
     ensures { λ r. ⌜ r ≡ (leb from (w .low) && leb (w .high) to) ⌝ }
 {
-    from <= w.low && w.high <= to
+    if from <= w.low {
+        return w.high <= to;
+    }
+    false
 }
 
 // The answer to a search that found a window, by the label. A search that found none has no window to judge.
@@ -60,18 +76,11 @@ fn found(from: u32, to: u32, steps: u32, w: Window) -> Answer
     if !w.seen {
         return refused(0, 0, steps);
     }
-    let refusal = if inside(from, to, w) {
-        0
-    } else {
-        number_of(Refusal::LabelBroken)
-    };
-    Answer {
-        refusal: refusal,
-        place: 0,
-        steps: steps,
-        low: low,
-        high: high,
+    if inside(from, to, w) {
+        return five(0, steps, low, high);
     }
+    let number = number_of(Refusal::LabelBroken);
+    five(number, steps, low, high)
 }
 
 // The answer to a search that ended.
@@ -106,7 +115,7 @@ fn searched(sheet: &[u8], index: Index, work: &mut [i32]) -> Answer
 pub fn check(sheet: &[u8], work: &mut [i32]) -> Answer
     ensures { λ r. ⌜ FollowsTheRules (now (sheet .entry)) (now (work .entry)) (answerOf r) ⌝ }
     ensures { λ _. ⌜ AllZeros (now (work .entry)) (now (work .exit)) ⌝ }
-    ensures { λ r. ⌜ r .refusal ≡ 0 → HoldsOfSheet (now (sheet .entry)) ⌝ }
+    ensures { λ r. ⌜ (r .refusal ≡ 0 → HoldsOfSheet (now (sheet .entry))) ⌝ }
 {
     let index = read_sheet(sheet);
     if index.refusal == 0 {

@@ -1,0 +1,49 @@
+use borrow.Author.Needs.{needs}
+use Rattle.label.proofs.searched.Statement.{statement}
+use Rattle.label.proofs.searched.Tie as tie
+use Rattle.label.proofs.searched.Reads as reads
+use Rattle.label.proofs.searched.Lts as lts
+use Rattle.label.proofs.judged.Reads as judged-reads
+use Rattle.label.proofs.refused.Reads as refused-reads
+use Rattle.refusal.proofs.number_of.Reads as number-of-reads
+use Rattle.search.proofs.search_sheet.Reads as search-sheet-reads
+
+-- src/lib.rt:107:13
+number-of-requires : tie.Need-number-of-requires
+number-of-requires c κs = search needs
+
+-- src/lib.rt:108:9
+refused-requires : tie.Need-refused-requires
+refused-requires c κs = search needs
+
+-- src/lib.rt:108:9
+returns : tie.Need-returns
+returns c = ?
+
+-- src/lib.rt:110:9
+search-sheet-requires : tie.Need-search-sheet-requires
+search-sheet-requires c κs = search needs
+
+-- src/lib.rt:111:5
+judged-requires : tie.Need-judged-requires
+judged-requires c κs = search needs
+
+-- src/lib.rt:100:1
+same-length : tie.Need-same-length
+same-length c = search needs
+
+-- src/lib.rt:100:1
+returns-2 : tie.Need-returns-2
+returns-2 c = ?
+
+pub searched-spec : {M : Type 1} → statement M
+searched-spec =
+    tie.close
+    (tie.spec
+    number-of-requires
+    refused-requires
+    returns
+    search-sheet-requires
+    judged-requires
+    same-length
+    returns-2)
