@@ -60,7 +60,11 @@ fn found(from: u32, to: u32, steps: u32, w: Window) -> Answer
     if !w.seen {
         return refused(0, 0, steps);
     }
-    let refusal = if inside(from, to, w) { 0 } else { number_of(Refusal::LabelBroken) };
+    let refusal = if inside(from, to, w) {
+        0
+    } else {
+        number_of(Refusal::LabelBroken)
+    };
     Answer {
         refusal: refusal,
         place: 0,

@@ -6,24 +6,36 @@ use Prim.Native.Nat.{ℕ, zero, suc, _+_, _≤_, _<_, max}
 use native.Mathlib.Omega.{arith}
 use borrow.Author.Tests.{le-leb, lt-leb}
 use lib.Dec.{leb}
+use lib.IntN.{ℤ}
 use lib.ListN.{length, getD}
 use Rattle.rules.specs.Base.{if_then_else_}
-use Rattle.rules.specs.Constants.{mostThreads}
+use Rattle.rules.specs.Constants.{half32, mostThreads}
 use Rattle.rules.specs.Program as P
 use Rattle.rules.specs.Program.{isHalt, Statement, Program, noThread}
 use Rattle.rules.specs.Format.{Bytes, Names}
 use Rattle.rules.specs.Search as S
-use Rattle.rules.specs.Search.{ThreadState, Live, before, effect, events}
+use Rattle.rules.specs.Search.{ThreadState, Live, unread, states, before, effect, events}
 use Rattle.reader.specs.Decoded.{actionOf}
 use Rattle.reader.specs.Facts.{threadIn, statementIn}
+use Rattle.reader.specs.Index.{noEntry}
+use Rattle.reader.specs.declared.threads.ThreadEntry.{ThreadEntry}
+use Rattle.reader.proofs.Facts.{thread-in}
+use Rattle.state.specs.Cells.{AllTimed}
 use Rattle.state.specs.Access.{threadAt}
 use Rattle.state.specs.Shape.{Sizes, threadOf, sizesOf, stateOf}
 use Rattle.state.specs.declared.State.{State}
 use Rattle.state.proofs.Shape.{state-thread, state-threads-length, sizes-threads, sizes-regs}
-use Rattle.search.specs.Fetch.{halts, Fetches}
-use Rattle.search.specs.Turn.{liveAfter}
+use Rattle.search.specs.Plan.{Planned}
+use Rattle.search.specs.Fetch.{halts, namesOf, Fetches}
+use Rattle.search.specs.Push.{Room}
+use Rattle.search.specs.Act.{Asks, OfProgram, Acts}
+use Rattle.search.specs.Turn.{liveAfter, Makes, heightOf, overOf, eventOf}
+use Rattle.search.specs.declared.plan.Plan.{Plan}
+use Rattle.search.specs.declared.act.Event.{Event}
+use Rattle.search.specs.declared.act.Acted.{Acted}
+use Rattle.search.specs.declared.turn.Made.{Made}
 use Rattle.search.specs.declared.fetch.Fetched.{Fetched}
-use Rattle.search.proofs.TurnLaws.{live-step, events-halted, events-passed, events-before}
+use Rattle.search.proofs.TurnLaws.{live-step, events-halted, events-passed, events-before, over-makes}
 
 halts-is : (at e : ℕ) (a : P.Action) → halts (actionOf at e a) ≡ isHalt a
 unfolding actionOf isHalt
@@ -96,3 +108,64 @@ module _ (g : Program) (s : State) (t : ℕ) (there : t < length (g .threads)) (
         ∙ events-before rules-state latest bound halted live-here (liveAfter g rules-state (suc t)) (is-halted ∙ h) (ap (λ (n : ℕ). leb n bound) same-from ∙ le-leb from bound l)
         ∙ ap (λ (p : ℕ). before p (effect rules-state t stands (max latest (stands .low + live-here .statement .least)) bound (live-here .statement .action)) (made-from (suc t))) (sym (fetched .place))
         ∙ ap (λ (n : ℕ). before (f .place) (effect rules-state t stands n bound (live-here .statement .action)) (made-from (suc t))) same-from
+
+-- ---- what the code asks of a thread's event, and what it makes of it
+
+registers-are : (bs : Bytes) (g : Program) (p : Plan) (places : List ℕ) → Planned bs g p places → (t : ℕ) → t < length (g .threads)
+    → getD (p .entries) t noEntry .registers ≡ length (threadIn g t .regs)
+registers-are bs g p places r t h = ap (λ (e : ThreadEntry). e .registers) (r .entries t h)
+
+module _ (bs : Bytes) (g : Program) (p : Plan) (places : List ℕ) (r : Planned bs g p places) (s : State) (t : ℕ) (there : t < length (g .threads))
+    (from to : ℕ) (f : Fetched) (fetched : Fetches bs (namesOf g t) (threadAt s t .at) (statementIn g t (threadAt s t .at)) f) where
+  abbrev its-event : Event
+  its-event = eventOf (getD (p .entries) t noEntry .registers) t from to
+
+  of-program : OfProgram g its-event
+  of-program = record {
+    there = there;
+    registers = registers-are bs g p places r t there;
+    threads-few = r .facts .threads-few;
+    regs-few = let a = thread-in (r .facts) t there .regs-few in let b = registers-are bs g p places r t there in omega arith;
+    vars-few = r .facts .vars-few;
+    locks-few = r .facts .locks-few;
+  }
+
+  pub act-asks : AllTimed s → from ≤ to → to < half32 → (b : List ℤ) (slots height : ℕ) → Room slots b → height ≤ slots + 1 → (v : Event) → v ≡ its-event
+      → Asks s v b height slots × (OfProgram g v × ((x : Statement) × Fetches bs (namesOf g (v .thread)) (threadAt s (v .thread) .at) x f))
+  act-asks timed l u b slots height room high v q =
+      subst (λ (w : Event). Asks s w b height slots × (OfProgram g w × ((x : Statement) × Fetches bs (namesOf g (w .thread)) (threadAt s (w .thread) .at) x f))) (sym q) (
+        record {
+          ticks = record { thread = let a = r .facts .threads-few in omega arith; from-small = omega arith; to-small = u };
+          timed = timed;
+          room = room;
+          high = high;
+        },
+        (of-program, (statementIn g t (threadAt s t .at), fetched)),
+      )
+
+  pub event-makes : length (s .threads) ≡ mostThreads → (latest : ℕ) → halts (f .action) ≡ false → from ≡ max latest (threadAt s t .clock .low .0 + f .least) → from ≤ to
+      → (slots : ℕ) (c d : List ℤ) (height : ℕ) (v : Event) → v ≡ its-event → (k : Acted)
+      → Acts (sizesOf g) slots c d height k
+      (effect (stateOf (sizesOf g) s) (v .thread) (threadOf (v .registers) (threadAt s (v .thread))) (v .from .0) (v .to .0) (statementIn g t (threadAt s t .at) .action))
+      → (b : List ℤ) (h : ℕ) (later m : Made) → height ≡ heightOf later h → m ≡ overOf later k (f .place)
+      → Makes (sizesOf g) slots b h c later (events (stateOf (sizesOf g) s) latest to (liveAfter g (stateOf (sizesOf g) s) (suc t)))
+      → Makes (sizesOf g) slots b h d m (events (stateOf (sizesOf g) s) latest to (liveAfter g (stateOf (sizesOf g) s) t))
+  event-makes four latest live q l slots c d height v e k acts b h later m eh em makes =
+      let z = sizesOf g in
+      let x = stateOf z s in
+      let action = statementIn g t (threadAt s t .at) .action in
+      let T = events x latest to (liveAfter g x (suc t)) in
+      let N : S.Next = effect x t (threadOf (length (threadIn g t .regs)) (threadAt s t)) from to action in
+      let a₁ : Acts z slots c d height k (effect x t (threadOf (getD (p .entries) t noEntry .registers) (threadAt s t)) from to action) =
+      subst (λ (w : Event). Acts z slots c d height k (effect x (w .thread) (threadOf (w .registers) (threadAt s (w .thread))) (w .from .0) (w .to .0) action)) e acts in
+      let a₂ : Acts z slots c d height k N = subst (λ (n : ℕ). Acts z slots c d height k (effect x t (threadOf n (threadAt s t)) from to action)) (registers-are bs g p places r t there) a₁ in
+      let a₃ : Acts z slots c d (heightOf later h) k N = subst (λ (n : ℕ). Acts z slots c d n k N) eh a₂ in
+      let made : Makes z slots b h d (overOf later k (f .place)) (before (f .place) N T) = over-makes z slots b c d h later T (f .place) k N makes a₃ in
+      let same : events x latest to (liveAfter g x t) ≡ before (f .place) N T =
+      event-before g s t there (r .facts .threads-few) four bs (namesOf g t) f fetched latest to live (subst (λ (n : ℕ). n ≤ to) q l)
+      ∙ ap (λ (n : ℕ). before (f .place) (effect x t (threadOf (length (threadIn g t .regs)) (threadAt s t)) n to action) T) (sym q) in
+      subst (λ (w : Made). Makes z slots b h d w (events x latest to (liveAfter g x t))) (sym em) (subst (Makes z slots b h d (overOf later k (f .place))) (sym same) made)
+
+pub acts-length : (z : Sizes) (slots : ℕ) (b c : List ℤ) (h : ℕ) (k : Acted) (n : S.Next) → Acts z slots b c h k n → length c ≡ length b
+acts-length z slots b c h k (unread q) a = a .1
+acts-length z slots b c h k (states xs) a = a .2 .same-length

@@ -3,4 +3,6 @@ pub mod PushLaws
 pub mod ActLaws
 pub mod TurnLaws
 pub mod EventLaws
+pub mod ExpandLaws
+pub mod WholeTurn
 pub mod RunLaws

@@ -56,7 +56,10 @@ fn standing(v: Event, at: u8, regs: [Span; 8]) -> Thread
 {
     let from = v.from;
     let to = v.to;
-    let clock = Clock { low: from, high: to };
+    let clock = Clock {
+        low: from,
+        high: to,
+    };
     Thread {
         at: at,
         clock: clock,
@@ -281,7 +284,15 @@ fn after_unlock(t: usize, o: u8) -> u8
     o
 }
 
-fn unlock(s: State, v: Event, x: Thread, l: usize, work: &mut [i32], height: usize, slots: usize) -> usize
+fn unlock(
+    s: State,
+    v: Event,
+    x: Thread,
+    l: usize,
+    work: &mut [i32],
+    height: usize,
+    slots: usize,
+) -> usize
     requires { ⌜ Asks s v (now work) height slots × ((x .at < mostStatements) × (l < mostLocks)) ⌝ }
     ensures { λ h. ⌜ ((z : Sizes) → l < z .locks
         → Acts z slots (now (work .entry)) (now (work .exit)) height (Acted.Height h)
@@ -297,7 +308,15 @@ fn unlock(s: State, v: Event, x: Thread, l: usize, work: &mut [i32], height: usi
     push(work, height, slots, u)
 }
 
-fn lock(s: State, v: Event, x: Thread, l: usize, work: &mut [i32], height: usize, slots: usize) -> usize
+fn lock(
+    s: State,
+    v: Event,
+    x: Thread,
+    l: usize,
+    work: &mut [i32],
+    height: usize,
+    slots: usize,
+) -> usize
     requires { ⌜ Asks s v (now work) height slots × ((x .at < mostStatements) × (l < mostLocks)) ⌝ }
     ensures { λ h. ⌜ ((z : Sizes) → l < z .locks
         → Acts z slots (now (work .entry)) (now (work .exit)) height (Acted.Height h)
@@ -338,8 +357,30 @@ pub fn act(
     match action {
         Action::Halt => Acted::Height(height),
         Action::Skip => Acted::Height(skip(s, v, x, work, height, slots)),
-        Action::Assign { register, at, end } => assign(sheet, s, v, x, register, at, end, work, height, slots),
-        Action::Branch { target, at, end } => branch(sheet, s, v, x, target, at, end, work, height, slots),
+        Action::Assign { register, at, end } => assign(
+            sheet,
+            s,
+            v,
+            x,
+            register,
+            at,
+            end,
+            work,
+            height,
+            slots,
+        ),
+        Action::Branch { target, at, end } => branch(
+            sheet,
+            s,
+            v,
+            x,
+            target,
+            at,
+            end,
+            work,
+            height,
+            slots,
+        ),
         Action::Store { register, variable } => {
             Acted::Height(store(s, v, x, register, variable, work, height, slots))
         }

@@ -56,7 +56,15 @@ pub enum Outcome {
     Finds(u32, Window),
 }
 
-pub fn search(sheet: &[u8], places: &[u16; 256], plan: Plan, first: State, budget: u32, work: &mut [i32], slots: usize) -> Outcome
+pub fn search(
+    sheet: &[u8],
+    places: &[u16; 256],
+    plan: Plan,
+    first: State,
+    budget: u32,
+    work: &mut [i32],
+    slots: usize,
+) -> Outcome
     requires { ⌜ Ready (now sheet) plan (now places) × (AllTimed first × (Room slots (now work) × (1 ≤ slots))) ⌝ }
     ensures { λ r. ⌜ endOf r ≡ S.search budget (programIn (now (sheet .entry))) slots (stateOf (sizesOf (programIn (now (sheet .entry)))) first ∷ []) unseen 0 ⌝ }
     ensures { λ r. ⌜ length (now (work .exit)) ≡ length (now (work .entry)) ⌝ }

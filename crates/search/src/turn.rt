@@ -128,7 +128,19 @@ fn expand(
     while 0 < t {
         t -= 1;
         let h = height_of(made, height);
-        made = before(sheet, places, plan, s, t, latest, bound, made, work, h, slots);
+        made = before(
+            sheet,
+            places,
+            plan,
+            s,
+            t,
+            latest,
+            bound,
+            made,
+            work,
+            h,
+            slots,
+        );
     }
     made
 }

@@ -14,11 +14,11 @@ enum-known-m-2 c = search needs
 
 -- src/turn.rt:142:1
 returns : tie.Need-returns
-returns c = ?
+returns c = rw (c .before .m .given .1)
 
 -- src/turn.rt:142:1
 returns-2 : tie.Need-returns-2
-returns-2 c = ?
+returns-2 c = rw (c .before .m2 .given .1)
 
 pub as-turned-spec : {M : Type 1} → statement M
 as-turned-spec = tie.close (tie.spec enum-known-m enum-known-m-2 returns returns-2)

@@ -1,3 +1,8 @@
+use Prim.Native.Nat.{_-_, _<_, _≤_}
+use native.Mathlib.Omega.{arith}
+use Rattle.state.specs.Shape.{sizesOf}
+use Rattle.search.specs.Plan.{programIn}
+use Rattle.search.proofs.ExpandLaws.{Expanding, expand-start, expand-length, expand-height, expand-later, expand-again, expand-done}
 use Rattle.search.proofs.turn.expand.Statement.{statement}
 use Rattle.search.proofs.turn.expand.Tie as tie
 use Rattle.search.proofs.turn.expand.Reads as reads
@@ -6,42 +11,65 @@ use Rattle.search.proofs.turn.before.Reads as before-reads
 use Rattle.search.proofs.turn.height_of.Reads as height-of-reads
 
 abbrev Inv-loop : tie.InvT-loop
-Inv-loop sheet places plan s latest bound work₀ height slots made₀ t₀ work made t = ?
+Inv-loop sheet places plan s latest bound work₀ height slots made₀ t₀ work made t = Expanding (programIn sheet) s latest bound slots work₀ height work made t
 
 abbrev μ-loop : tie.MeasureT-loop
-μ-loop sheet places plan s latest bound work₀ height slots made₀ t₀ work made t = ?
+μ-loop sheet places plan s latest bound work₀ height slots made₀ t₀ work made t = t
 
 -- src/turn.rt:109:5
 loop-holds : tie.Need-loop-holds Inv-loop μ-loop
-loop-holds c = ?
+loop-holds c = let st = c .before in
+    let a = st .args in
+    let g = programIn (a .sheet .now) in
+    expand-start g (a .s) (a .latest) (a .bound) (a .slots) (a .work .now) (a .height) (a .plan .threads) (st .pre .0 .threads) (st .pre .1 .1 .1 .1 .1)
 
 -- src/turn.rt:110:9
 sub-t : tie.Need-sub-t Inv-loop μ-loop
-sub-t c = ?
+sub-t c = c .loop-test .taken
 
 -- src/turn.rt:111:13
 height-of-requires : tie.Need-height-of-requires Inv-loop μ-loop
-height-of-requires c κs = ?
+height-of-requires c κs = tt
 
 -- src/turn.rt:112:9
 before-requires : tie.Need-before-requires Inv-loop μ-loop
-before-requires c κs = ?
+before-requires c κs = let st = c .before .before .before .before .before in
+    let a = st .args in
+    let g = programIn (a .sheet .now) in
+    let x = c .before .before .before .loop .inv in
+    let more = c .before .before .loop-test .taken in
+    let inside = x .inside in
+    let room = st .pre .1 .1 .1 .1 .0 in
+    let long = expand-length g (a .s) (a .latest) (a .bound) (a .slots) (a .work .now) (a .height) (c .before .before .before .loop .work) (c .before .before .before .loop .made) (c .before .before .before .loop .t) x in
+    let high = expand-height g (a .s) (a .latest) (a .bound) (a .slots) (a .work .now) (a .height) (c .before .before .before .loop .work) (c .before .before .before .loop .made) (c .before .before .before .loop .t) x (st .pre .1 .1 .1 .1 .1) in
+    (st .pre .0, (omega arith, (st .pre .1 .0, (st .pre .1 .1 .0, (st .pre .1 .1 .1 .0, (omega arith, omega (arith, c .before .height-of .ensures)))))))
 
 -- src/turn.rt:109:5
 loop-less : tie.Need-loop-less Inv-loop μ-loop
-loop-less c = ?
+loop-less c = let more = c .before .before .before .before .loop-test .taken in omega arith
 
 -- src/turn.rt:109:5
 loop-again : tie.Need-loop-again Inv-loop μ-loop
-loop-again c = ?
+loop-again c = let st = c .before .before .before .before .before .before .before in
+    let a = st .args in
+    let g = programIn (a .sheet .now) in
+    let x = c .before .before .before .before .before .loop .inv in
+    let more = c .before .before .before .before .loop-test .taken in
+    expand-again g (a .s) (a .latest) (a .bound) (a .slots) (a .work .now) (a .height) (c .before .before .before .before .before .loop .work) (c .before .before .before .before .before .loop .made) (c .before .before .before .before .before .loop .t) x more _ _ (c .before .before2 .ensures .0 (a .work .now) (a .height) (c .before .before .before .height-of .ensures) (expand-later g (a .s) (a .latest) (a .bound) (a .slots) (a .work .now) (a .height) (c .before .before .before .before .before .loop .work) (c .before .before .before .before .before .loop .made) (c .before .before .before .before .before .loop .t) x more))
 
 -- src/turn.rt:92:1
 same-length : tie.Need-same-length Inv-loop μ-loop
-same-length c = ?
+same-length c = let st = c .before .before .before in
+    let a = st .args in
+    let g = programIn (a .sheet .now) in
+    expand-length g (a .s) (a .latest) (a .bound) (a .slots) (a .work .now) (a .height) (c .before .loop .work) (c .before .loop .made) (c .before .loop .t) (c .before .loop .inv)
 
 -- src/turn.rt:92:1
 returns : tie.Need-returns Inv-loop μ-loop
-returns c = ?
+returns c = let st = c .before .before .before in
+    let a = st .args in
+    let g = programIn (a .sheet .now) in
+    expand-done g (a .s) (a .latest) (a .bound) (a .slots) (a .work .now) (a .height) (c .before .loop .work) (c .before .loop .made) (c .before .loop .t) (c .before .loop .inv) (c .loop-test .left)
 
 pub expand-spec : {M : Type 1} → statement M
 expand-spec =

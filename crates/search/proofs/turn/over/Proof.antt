@@ -22,15 +22,15 @@ enum-told c = search needs
 
 -- src/turn.rt:38:1
 returns : tie.Need-returns
-returns c = ?
+returns c = rw (c .before .r .given .1)
 
 -- src/turn.rt:38:1
 returns-2 : tie.Need-returns-2
-returns-2 c = ?
+returns-2 c = rw (c .before .before .before .before .r2 .given .1, c .before .later .given .1)
 
 -- src/turn.rt:38:1
 returns-3 : tie.Need-returns-3
-returns-3 c = ?
+returns-3 c = rw (c .before .before .before .r2 .given .1, c .enum-told .given .1)
 
 pub over-spec : {M : Type 1} → statement M
 over-spec =

@@ -1,3 +1,8 @@
+use Prim.Native.Nat.{_<_, _≤_}
+use native.Mathlib.Omega.{arith}
+use Rattle.state.specs.Shape.{sizesOf}
+use Rattle.search.specs.Plan.{programIn}
+use Rattle.search.proofs.WholeTurn.{turn-ended, turn-stuck, turn-past, turn-follows, limit-small, low-small}
 use borrow.Author.Needs.{needs}
 use Rattle.search.proofs.turn.turn.Statement.{statement}
 use Rattle.search.proofs.turn.turn.Tie as tie
@@ -9,27 +14,49 @@ use Rattle.search.proofs.turn.expand.Reads as expand-reads
 
 -- src/turn.rt:164:9
 survey-threads-requires : tie.Need-survey-threads-requires
-survey-threads-requires c κs = search needs
+survey-threads-requires c κs = (c .before .pre .0, c .before .pre .1 .0)
 
 -- src/turn.rt:166:9
 returns : tie.Need-returns
-returns c = ?
+returns c = let st = c .before .before .before .before in
+    let a = st .args in
+    let g = programIn (a .sheet .now) in
+    let v = c .before .before .survey-threads .result in
+    let sv = c .before .before .survey-threads .ensures in
+    turn-ended g (sizesOf g) (a .s) (a .slots) (a .work .now) (a .height) v sv (c .if1 .taken)
 
 -- src/turn.rt:169:9
 returns-2 : tie.Need-returns-2
-returns-2 c = ?
+returns-2 c = let st = c .before .before .before .before .before in
+    let a = st .args in
+    let g = programIn (a .sheet .now) in
+    let v = c .before .before .before .survey-threads .result in
+    let sv = c .before .before .before .survey-threads .ensures in
+    turn-stuck g (sizesOf g) (a .s) (a .slots) (a .work .now) (a .height) v sv (c .before .if1 .left) (c .if2 .taken)
 
 -- src/turn.rt:172:9
 returns-3 : tie.Need-returns-3
-returns-3 c = ?
+returns-3 c = let st = c .before .before .before .before .before .before .before .before in
+    let a = st .args in
+    let g = programIn (a .sheet .now) in
+    let v = c .before .before .before .before .before .before .survey-threads .result in
+    let sv = c .before .before .before .before .before .before .survey-threads .ensures in
+    turn-past g (sizesOf g) (a .s) (a .slots) (a .work .now) (a .height) v sv (c .before .before .before .before .if1 .left) (c .before .before .before .if2 .left) (a .plan .limit) (st .pre .0 .limit) (c .if3 .taken)
 
 -- src/turn.rt:174:9
 expand-requires : tie.Need-expand-requires
-expand-requires c κs = ?
+expand-requires c κs = let st = c .before .before .before .before .before .before .before .before .before in
+    let a = st .args in
+    let g = programIn (a .sheet .now) in
+    let v = c .before .before .before .before .before .before .before .survey-threads .result in
+    let sv = c .before .before .before .before .before .before .before .survey-threads .ensures in
+    let small = limit-small (a .sheet .now) g (a .plan) (a .places .now) (st .pre .0) in
+    let low = c .before .if3 .left in
+    (st .pre .0, (st .pre .1 .0, (omega arith, (low-small g (a .s) (st .pre .1 .0) (st .pre .0 .facts .threads-few) v sv, (st .pre .1 .1 .0, st .pre .1 .1 .1)))))
 
 -- src/turn.rt:175:5
 as-turned-requires : tie.Need-as-turned-requires
-as-turned-requires c κs = search needs
+as-turned-requires c κs = tt
 
 -- src/turn.rt:151:1
 same-length : tie.Need-same-length
@@ -37,7 +64,12 @@ same-length c = search needs
 
 -- src/turn.rt:151:1
 returns-4 : tie.Need-returns-4
-returns-4 c = ?
+returns-4 c = let st = c .before .before .before .before .before .before .before .before .before .before .before .before in
+    let a = st .args in
+    let g = programIn (a .sheet .now) in
+    let v = c .before .before .before .before .before .before .before .before .before .before .survey-threads .result in
+    let sv = c .before .before .before .before .before .before .before .before .before .before .survey-threads .ensures in
+    turn-follows g (sizesOf g) (a .s) (a .slots) (a .work .now) (a .height) v sv (c .before .before .before .before .before .before .before .before .if1 .left) (c .before .before .before .before .before .before .before .if2 .left) (a .plan .limit) (st .pre .0 .limit) (c .before .before .before .before .if3 .left) (c .before .before .expand .last .1 .1 .1 .1 .1 .1 .0) (c .before .before .expand .result) (c .as-turned .result) (c .before .before .expand .ensures) (c .as-turned .ensures)
 
 pub turn-spec : {M : Type 1} → statement M
 turn-spec =
