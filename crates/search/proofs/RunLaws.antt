@@ -1,21 +1,19 @@
--- Laws of the loop: what a step of the rules' search comes to, by what the code's turn gave.
+-- Laws of the loop: what a step of the rules' search comes to, by what the code's turn gave; what holds at the loop's head; and
+-- the search of a sheet that reads.
 use mathlib.Core.Path.{_≡_, refl, sym, ap, subst, _∙_}
-use mathlib.Core.Bool.{Bool, true, false}
 use mathlib.Core.List.{List, [], _∷_, _++_}
-use Prim.Native.Nat.{ℕ, zero, suc, _+_, _-_, _*_, _≤_, _<_, min}
+use Prim.Native.Nat.{ℕ, zero, suc, _+_, _-_, _*_, _≤_, _<_}
 use native.Mathlib.Omega.{arith}
 use native.Mathlib.Numerals.{add-one}
 use borrow.Author.Tests.{le-leb, lt-leb}
-use lib.Dec.{leb}
 use lib.IntN.{ℤ}
 use lib.ListN.{length}
-use Rattle.rules.specs.Base.{if_then_else_}
 use Rattle.rules.specs.Constants.{numbersPerState}
 use Rattle.rules.specs.Refusal as R
 use Rattle.rules.specs.Program.{Program}
 use Rattle.rules.specs.Search as S
 use Rattle.rules.specs.Format.{Bytes, got, readSheet}
-use Rattle.rules.specs.Search.{Turn, refused, ended, follow, turn, Window, unseen, widen, fails, finds, goOn, stop, afterTurn, searchStep, resume, search, start, searchFrom}
+use Rattle.rules.specs.Search.{Turn, refused, ended, follow, turn, Window, unseen, widen, fails, finds, afterTurn, searchStep, resume, search, start, searchFrom}
 use Rattle.refusal.specs.Shape.{refusalOf, ruleOf}
 use Rattle.refusal.specs.declared.Refusal.{Refusal}
 use Rattle.reader.specs.declared.Index.{Index}
@@ -28,7 +26,6 @@ use Rattle.state.proofs.Shape.{states-nil, states-length}
 use Rattle.state.proofs.Round.{stored-length}
 use Rattle.state.proofs.Stack.{stack-length, push-states, top-states}
 use Rattle.search.specs.Plan.{programOf, programIn, Planned, Ready}
-use Rattle.search.specs.Push.{Pushed}
 use Rattle.search.specs.Turn.{Turns}
 use Rattle.search.specs.declared.turn.Turned.{Turned}
 use Rattle.search.specs.declared.turn.Turned.the-variants.{Refused, Ended, Height}
@@ -148,22 +145,20 @@ search-out : (g : Program) (slots : ℕ) (x : S.State) (xs : List S.State) (w : 
 unfolding search
 search-out g slots x xs w n = refl
 
-module _ {whole : S.End} (g : Program) (slots budget size : ℕ) (b : List ℤ) (height steps : ℕ) (w : Window) (at : Goes whole g slots budget size b height steps w) where
-  abbrev z : Sizes
-  z = sizesOf g
-
+module _ {whole : S.End} {g : Program} {slots budget size : ℕ} {b : List ℤ} {height steps : ℕ} {w : Window} (at : Goes whole g slots budget size b height steps w) where
   -- the stack is empty
   pub goes-out : height ≡ 0 → whole ≡ finds steps w
   unfolding stackOf
   goes-out e =
       at .goes
-      ∙ ap (λ (k : ℕ). search (budget - steps) g slots (statesOf z (stackOf k b)) w steps) e
-      ∙ ap (λ (xs : List S.State). search (budget - steps) g slots xs w steps) (states-nil z)
+      ∙ ap (λ (k : ℕ). search (budget - steps) g slots (statesOf (sizesOf g) (stackOf k b)) w steps) e
+      ∙ ap (λ (xs : List S.State). search (budget - steps) g slots xs w steps) (states-nil (sizesOf g))
       ∙ search-none (budget - steps) g slots w steps
 
   -- the budget is spent
   pub goes-short : 0 < height → steps ≡ budget → whole ≡ fails R.outOfSteps 0 steps
   goes-short h e =
+      let z = sizesOf g in
       let s = decode (slotOf b (height - 1)) in
       let d : budget - steps ≡ 0 = omega arith in
       at .goes
@@ -171,56 +166,70 @@ module _ {whole : S.End} (g : Program) (slots budget size : ℕ) (b : List ℤ) 
       ∙ ap (λ (xs : List S.State). search 0 g slots xs w steps) (top-states z b height s h refl)
       ∙ search-out g slots (stateOf z s) (statesOf z (stackOf (height - 1) b)) w steps
 
-  -- the state s is taken from the top, and its turn makes m and the buffer c
-  module _ (s : State) (h : 0 < height) (more : steps < budget) (e : s ≡ decode (slotOf b (height - 1))) (c : List ℤ) (m : Turned) (made : Turns z slots b (height - 1) c m (turn g (stateOf z s))) where
-    abbrev left : ℕ
-    left = budget - (steps + 1)
+-- from the loop's head a state is taken from the top, and its turn makes m and the buffer c
+pub record Taken (whole : S.End) (g : Program) (slots budget size : ℕ) (b : List ℤ) (height steps : ℕ) (w : Window) (c : List ℤ) (m : Turned) : Type 0 where
+  pub at : Goes whole g slots budget size b height steps w
+  pub some : 0 < height
+  pub more : steps < budget
+  pub state : State
+  pub top : state ≡ decode (slotOf b (height - 1))
+  pub made : Turns (sizesOf g) slots b (height - 1) c m (turn g (stateOf (sizesOf g) state))
 
-    abbrev x : S.State
-    x = stateOf z s
+module _ {whole : S.End} {g : Program} {slots budget size : ℕ} {b : List ℤ} {height steps : ℕ} {w : Window} {c : List ℤ} {m : Turned} (taken : Taken whole g slots budget size b height steps w c m) where
+  abbrev z : Sizes
+  z = sizesOf g
 
-    low : height - 1 ≤ slots
-    low = let i = at .in-slots in omega arith
+  abbrev left : ℕ
+  left = budget - (steps + 1)
 
-    here : whole ≡ search (suc left) g slots (x ∷ statesOf z (stackOf (height - 1) b)) w steps
-    here =
-        let d : budget - steps ≡ suc left = omega arith in
-        at .goes
-        ∙ ap (λ (k : ℕ). search k g slots (statesOf z (stackOf height b)) w steps) d
-        ∙ ap (λ (xs : List S.State). search (suc left) g slots xs w steps) (top-states z b height s h e)
+  abbrev x : S.State
+  x = stateOf z (taken .state)
 
-    made-as : (n : Turned) → m ≡ n → Turns z slots b (height - 1) c n (turn g x)
-    made-as n i = subst (λ (u : Turned). Turns z slots b (height - 1) c u (turn g x)) i made
+  low : height - 1 ≤ slots
+  low = let i = taken .at .in-slots in omega arith
 
-    pub goes-refused : (q : Refusal) (p : ℕ) → m ≡ Refused q p → whole ≡ fails (ruleOf q) p (steps + 1)
-    goes-refused q p i = rw add-one (here ∙ turned-refused left g z slots x b c (height - 1) low w steps (turn g x) refl q p (made-as (Refused q p) i))
+  here : whole ≡ search (suc left) g slots (x ∷ statesOf z (stackOf (height - 1) b)) w steps
+  here =
+      let more = taken .more in
+      let d : budget - steps ≡ suc left = omega arith in
+      taken .at .goes
+      ∙ ap (λ (k : ℕ). search k g slots (statesOf z (stackOf height b)) w steps) d
+      ∙ ap (λ (xs : List S.State). search (suc left) g slots xs w steps) (top-states z b height (taken .state) (taken .some) (taken .top))
 
-    pub goes-full : (k : ℕ) → m ≡ Height k → slots < k → whole ≡ fails R.outOfRoom 0 (steps + 1)
-    goes-full k i l = rw add-one (here ∙ turned-full left g z slots x b c (height - 1) low w steps (turn g x) refl k l (made-as (Height k) i))
+  made-as : (n : Turned) → m ≡ n → Turns z slots b (height - 1) c n (turn g x)
+  made-as n i = subst (λ (u : Turned). Turns z slots b (height - 1) c u (turn g x)) i (taken .made)
 
-    pub goes-ended : (p q : ℕ) (v : Window) → m ≡ Ended p q → v ≡ widen w p q → Goes whole g slots budget size c (height - 1) (steps + 1) v
-    goes-ended p q v i f =
-        let t = turned-ended left g z slots x b c (height - 1) low w steps (turn g x) refl p q (made-as (Ended p q) i) in
-        let u : suc steps ≡ steps + 1 = omega arith in
-        record {
-          in-budget = omega arith;
-          in-slots = low;
-          sized = t .1 ∙ at .sized;
-          goes = here ∙ t .0
-              ∙ ap (λ (y : Window). search left g slots (statesOf z (stackOf (height - 1) c)) y (suc steps)) (sym f)
-              ∙ ap (λ (n : ℕ). search left g slots (statesOf z (stackOf (height - 1) c)) v n) u;
-        }
+  pub goes-refused : (q : Refusal) (p : ℕ) → m ≡ Refused q p → whole ≡ fails (ruleOf q) p (steps + 1)
+  goes-refused q p i = rw add-one (here ∙ turned-refused left g z slots x b c (height - 1) low w steps (turn g x) refl q p (made-as (Refused q p) i))
 
-    pub goes-on : (k : ℕ) → m ≡ Height k → k ≤ slots → Goes whole g slots budget size c k (steps + 1) w
-    goes-on k i l =
-        let t = turned-height left g z slots x b c (height - 1) low w steps (turn g x) refl k l (made-as (Height k) i) in
-        let u : suc steps ≡ steps + 1 = omega arith in
-        record {
-          in-budget = omega arith;
-          in-slots = l;
-          sized = t .1 ∙ at .sized;
-          goes = here ∙ t .0 ∙ ap (λ (n : ℕ). search left g slots (statesOf z (stackOf k c)) w n) u;
-        }
+  pub goes-full : (k : ℕ) → m ≡ Height k → slots < k → whole ≡ fails R.outOfRoom 0 (steps + 1)
+  goes-full k i l = rw add-one (here ∙ turned-full left g z slots x b c (height - 1) low w steps (turn g x) refl k l (made-as (Height k) i))
+
+  pub goes-ended : (p q : ℕ) {v : Window} → m ≡ Ended p q → v ≡ widen w p q → Goes whole g slots budget size c (height - 1) (steps + 1) v
+  goes-ended p q {v} i f =
+      let more = taken .more in
+      let t = turned-ended left g z slots x b c (height - 1) low w steps (turn g x) refl p q (made-as (Ended p q) i) in
+      let u : suc steps ≡ steps + 1 = omega arith in
+      record {
+        in-budget = omega arith;
+        in-slots = low;
+        sized = t .1 ∙ taken .at .sized;
+        goes = here ∙ t .0
+            ∙ ap (λ (y : Window). search left g slots (statesOf z (stackOf (height - 1) c)) y (suc steps)) (sym f)
+            ∙ ap (λ (n : ℕ). search left g slots (statesOf z (stackOf (height - 1) c)) v n) u;
+      }
+
+  pub goes-on : (k : ℕ) → m ≡ Height k → k ≤ slots → Goes whole g slots budget size c k (steps + 1) w
+  goes-on k i l =
+      let more = taken .more in
+      let t = turned-height left g z slots x b c (height - 1) low w steps (turn g x) refl k l (made-as (Height k) i) in
+      let u : suc steps ≡ steps + 1 = omega arith in
+      record {
+        in-budget = omega arith;
+        in-slots = l;
+        sized = t .1 ∙ taken .at .sized;
+        goes = here ∙ t .0 ∙ ap (λ (n : ℕ). search left g slots (statesOf z (stackOf k c)) w n) u;
+      }
 
 -- the loop begins, with the first state in the slot at the bottom
 pub goes-start : (g : Program) (slots budget : ℕ) (b : List ℤ) → 1 ≤ slots → Goes (search budget g slots (statesOf (sizesOf g) (stackOf 1 b)) unseen 0) g slots budget (length b) b 1 0 unseen
@@ -231,12 +240,13 @@ goes-start g slots budget b h = record {
   goes = let d : budget ≡ budget - 0 = omega arith in ap (λ (k : ℕ). search k g slots (statesOf (sizesOf g) (stackOf 1 b)) unseen 0) d;
 }
 
-pub goes-from : (g : Program) (slots budget : ℕ) (b₀ c₀ b : List ℤ) (height steps : ℕ) (w : Window) (s : State)
+-- so the whole search is that from the first state
+pub goes-from : {g : Program} {slots budget : ℕ} {c₀ b : List ℤ} {height steps : ℕ} {w : Window} (b₀ : List ℤ) (s : State)
     → 1 * numbersPerState ≤ length b₀ → Sound s → c₀ ≡ stored b₀ 0 s
     → Goes (search budget g slots (statesOf (sizesOf g) (stackOf 1 c₀)) unseen 0) g slots budget (length c₀) b height steps w
     → Goes (search budget g slots (stateOf (sizesOf g) s ∷ []) unseen 0) g slots budget (length b₀) b height steps w
 unfolding stackOf
-goes-from g slots budget b₀ c₀ b height steps w s room sound e at =
+goes-from {g} {slots} {budget} {c₀} b₀ s room sound e at =
     let z = sizesOf g in
     let p : statesOf z (stackOf 1 c₀) ≡ stateOf z s ∷ [] =
     ap (λ (l : List ℤ). statesOf z (stackOf 1 l)) e ∙ push-states z b₀ 0 s (omega arith) sound ∙ ap (λ (xs : List S.State). stateOf z s ∷ xs) (states-nil z) in
@@ -267,13 +277,14 @@ module _ (s : Bytes) (i : Index) (h : i ≡ indexOf (readSheet s)) (fine : i .re
         places-are = f .places;
       })
 
-  pub from-first : (slots : ℕ) (first : State) → ((g : Program) (e : ℕ) → readSheet s ≡ got g e → stateOf (sizesOf g) first ≡ start g)
-      → search (i .budget) (programIn s) slots (stateOf (sizesOf (programIn s)) first ∷ []) unseen 0 ≡ searchFrom (programIn s) slots
+  pub from-first : {r : S.End} (slots : ℕ) (first : State) → ((g : Program) (e : ℕ) → readSheet s ≡ got g e → stateOf (sizesOf g) first ≡ start g)
+      → r ≡ search (i .budget) (programIn s) slots (stateOf (sizesOf (programIn s)) first ∷ []) unseen 0 → r ≡ searchFrom (programIn s) slots
   unfolding searchFrom
-  from-first slots first starts =
+  from-first slots first starts found =
       let a = accepted (readSheet s) h fine in
       let g = a .0 in
       let f = index-facts g (a .1) h (a .2) in
-      subst (λ (p : Program). search (i .budget) p slots (stateOf (sizesOf p) first ∷ []) unseen 0 ≡ searchFrom p slots) (sym (program-is s g (a .1) (a .2)))
+      found
+      ∙ subst (λ (p : Program). search (i .budget) p slots (stateOf (sizesOf p) first ∷ []) unseen 0 ≡ searchFrom p slots) (sym (program-is s g (a .1) (a .2)))
       (ap (λ (n : ℕ). search n g slots (stateOf (sizesOf g) first ∷ []) unseen 0) (f .budget)
       ∙ ap (λ (y : S.State). search (g .header .budget) g slots (y ∷ []) unseen 0) (starts g (a .1) (a .2)))
