@@ -67,20 +67,27 @@ fn inside(from: u32, to: u32, w: Window) -> bool
     false
 }
 
-// The answer to a search that found a window, by the label. A search that found none has no window to judge.
-fn found(from: u32, to: u32, steps: u32, w: Window) -> Answer
-    ensures { λ r. ⌜ r ≡ windowed from to steps w ⌝ }
+// The answer to a window, by the label.
+fn by_label(from: u32, to: u32, steps: u32, w: Window) -> Answer
+    ensures { λ r. ⌜ r ≡ fiveOf (if leb from (w .low) && leb (w .high) to then 0 else 15) 0 steps (w .low) (w .high) ⌝ }
 {
     let low = w.low;
     let high = w.high;
-    if !w.seen {
-        return refused(0, 0, steps);
-    }
     if inside(from, to, w) {
         return five(0, steps, low, high);
     }
     let number = number_of(Refusal::LabelBroken);
     five(number, steps, low, high)
+}
+
+// The answer to a search that ended without a refusal. It has found a window; where it had not, there were none to judge.
+fn found(from: u32, to: u32, steps: u32, w: Window) -> Answer
+    ensures { λ r. ⌜ r ≡ windowed from to steps w ⌝ }
+{
+    if w.seen {
+        return by_label(from, to, steps, w);
+    }
+    refused(0, 0, steps)
 }
 
 // The answer to a search that ended.

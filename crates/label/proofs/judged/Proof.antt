@@ -1,3 +1,6 @@
+use mathlib.Core.Path.{_≡_, refl, sym, ap, subst, _∙_}
+use Rattle.label.specs.Shape.{answerOf, headerOf}
+use Rattle.label.proofs.Laws.{judges, judges-failed}
 use borrow.Author.Needs.{needs}
 use Rattle.label.proofs.judged.Statement.{statement}
 use Rattle.label.proofs.judged.Tie as tie
@@ -29,11 +32,13 @@ found-requires c κs = search needs
 
 -- src/lib.rt:87:1
 returns : tie.Need-returns
-returns c = ?
+returns c = let arg = c .before .before .before .before .before .args in
+    λ limit budget. rw (c .before .before .before .o .given .1) (ap answerOf (c .refused .ensures) ∙ judges-failed (headerOf limit budget (arg .from) (arg .to)) _ _ _ (c .before .number-of .result) (c .before .number-of .ensures))
 
 -- src/lib.rt:87:1
 returns-2 : tie.Need-returns-2
-returns-2 c = ?
+returns-2 c = let arg = c .before .before .before .before .args in
+    λ limit budget. rw (c .before .before .o2 .given .1) (ap answerOf (c .found .ensures) ∙ judges limit budget (arg .from) (arg .to) (c .before .before .o2 .given .0 .0) (c .before .before .o2 .given .0 .1 .0))
 
 pub judged-spec : {M : Type 1} → statement M
 judged-spec =

@@ -1,3 +1,10 @@
+use mathlib.Core.Path.{_≡_, refl, sym, ap, subst, _∙_}
+use Prim.Native.Nat.{ℕ, _/_, _*_, _≤_, _<_}
+use native.Mathlib.Omega.{arith}
+use lib.ListN.{length}
+use Rattle.rules.specs.Constants.{numbersPerState}
+use native.Mathlib.Nat.{div-mul-le-self}
+use Rattle.label.proofs.Laws.{answers-full, answers-searched, positive}
 use borrow.Author.Needs.{needs}
 use Rattle.label.proofs.searched.Statement.{statement}
 use Rattle.label.proofs.searched.Tie as tie
@@ -18,11 +25,18 @@ refused-requires c κs = search needs
 
 -- src/lib.rt:108:9
 returns : tie.Need-returns
-returns c = ?
+returns c = let st = c .before .before .before .before in
+    let a = st .args in
+    let n = length (a .work .now) / numbersPerState in
+    (answers-full (a .sheet .now) (a .index) (st .pre .0) (st .pre .1) n (c .before .number-of .result) (c .before .before .if1 .taken) (c .before .number-of .ensures) (c .refused .result) (c .refused .ensures), refl)
 
 -- src/lib.rt:110:9
 search-sheet-requires : tie.Need-search-sheet-requires
-search-sheet-requires c κs = search needs
+search-sheet-requires c κs = let st = c .before .before .before in
+    let a = st .args in
+    let n = length (a .work .now) / numbersPerState in
+    let some = c .before .if1 .left in
+    (st .pre .0, (st .pre .1, (div-mul-le-self (length (a .work .now)) numbersPerState, positive n some)))
 
 -- src/lib.rt:111:5
 judged-requires : tie.Need-judged-requires
@@ -34,7 +48,10 @@ same-length c = search needs
 
 -- src/lib.rt:100:1
 returns-2 : tie.Need-returns-2
-returns-2 c = ?
+returns-2 c = let st = c .before .before .before .before .before .before in
+    let a = st .args in
+    let n = length (a .work .now) / numbersPerState in
+    (answers-searched (a .sheet .now) (a .index) (st .pre .0) (st .pre .1) n (c .before .before .before .before .if1 .left) (c .before .before .search-sheet .result) (c .before .before .search-sheet .ensures .0) (c .judged .result) (c .judged .ensures), c .before .before .search-sheet .ensures .1)
 
 pub searched-spec : {M : Type 1} → statement M
 searched-spec =
