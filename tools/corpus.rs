@@ -36,7 +36,7 @@ use std::io::Write;
 use std::{env, fs, process};
 
 /// How many entries of each refusal are kept at most, per thousand asked for.
-const SHARES: [usize; 16] = [190, 70, 80, 50, 60, 60, 60, 40, 40, 4, 110, 70, 80, 70, 80, 90];
+const SHARES: [usize; 16] = [190, 60, 60, 50, 50, 60, 60, 40, 40, 0, 110, 80, 80, 70, 75, 80];
 
 const FRONT: usize = 19;
 

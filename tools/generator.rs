@@ -23,7 +23,7 @@ pub fn answer(sheet: &[u8], length: usize) -> Option<Answer> {
     // the budget of a header that may be in range, lowered
     if sheet.len() >= 11 && sheet[..3] == [1, 0, 16] {
         let budget = u32::from_be_bytes([sheet[7], sheet[8], sheet[9], sheet[10]]);
-        if (MOST_STEPS..=10_000_000).contains(&budget) {
+        if (MOST_STEPS + 1..=10_000_000).contains(&budget) {
             let mut lowered = sheet.to_vec();
             lowered[7..11].copy_from_slice(&MOST_STEPS.to_be_bytes());
             if check(&lowered, length).refusal == 13 {
@@ -527,13 +527,15 @@ impl Generator {
     fn plan(&mut self) -> Plan {
         self.values = self.random.pick(&[Values::Small, Values::Small, Values::Small, Values::Extreme, Values::Any]);
         self.pace = self.random.pick(&[Pace::Unit, Pace::Unit, Pace::Tiny, Pace::Tiny, Pace::Wide, Pace::Huge]);
-        match self.random.below(13) {
+        match self.random.below(17) {
             0 | 1 => self.sequential(),
             2..=4 => self.branching(),
-            5 | 6 => self.parallel(),
-            7 | 8 => self.locking(),
-            9 => self.looping(),
-            10 => self.messages(),
+            5 | 6 => self.joined(),
+            7 => self.guarded(),
+            8 | 9 => self.parallel(),
+            10..=12 => self.locking(),
+            13 => self.looping(),
+            14 => self.messages(),
             _ => self.mixed(),
         }
     }
@@ -579,6 +581,70 @@ impl Generator {
         statements[0].rest[1] = statements.len() as u8;
         let count = if count == 0 { 2 } else { self.random.between(0, 1) };
         self.probes(count, &registers, &mut statements);
+        Plan::of(0, vec![], vec![Thread { registers, statements }])
+    }
+
+    /// One side of an "and": a register against a constant, itself or another.
+    fn side(&mut self, known: &[Range]) -> Condition {
+        let register = self.random.below(known.len());
+        let (low, high) = known[register];
+        let inner = low.saturating_add(self.random.below(high.abs_diff(low) as usize % 9 + 1) as i32);
+        let value = Constant(if self.random.chance(30) { self.near(known[register]) } else { inner });
+        let own = Box::new(Register(register as u8));
+        let other = match self.random.below(8) {
+            0 => Register(self.random.below(known.len()) as u8),
+            1 => Operation(19, Box::new(value), own),
+            2 => Operation(PLUS, own, Box::new(value)),
+            _ => value,
+        };
+        let code = self.random.pick(&[EQUAL, LESS, LESS, LESS]);
+        let register = Register(register as u8);
+        let side = if self.random.chance(50) { Comparison(code, register, other) } else { Comparison(code, other, register) };
+        if self.random.chance(50) { Not(Box::new(side)) } else { side }
+    }
+
+    /// A condition made of "and" and "not", then probes where it holds or fails.
+    fn joined(&mut self) -> Plan {
+        self.values = Values::Small;
+        let registers = { let count = self.random.pick(&[1, 2, 2]); self.ranges(count) };
+        let mut condition = And(Box::new(self.side(&registers)), Box::new(self.side(&registers)));
+        if self.random.chance(30) {
+            let (whole, more) = (Box::new(Not(Box::new(condition))), Box::new(self.side(&registers)));
+            condition = if self.random.chance(50) { And(whole, more) } else { And(more, whole) };
+        }
+        if self.random.chance(30) {
+            condition = Not(Box::new(condition));
+        }
+        // the other branch halts at once
+        let mut statements = vec![jump(self.times(), 2, &Not(Box::new(condition.clone()))), halt()];
+        if self.random.chance(25) {
+            statements[0] = jump(self.times(), 2, &condition);
+        }
+        let count = self.random.between(1, 2);
+        self.probes(count, &registers, &mut statements);
+        Plan::of(0, vec![], vec![Thread { registers, statements }])
+    }
+
+    /// A part of a condition without a reading, or with one only where another
+    /// part holds.
+    fn guarded(&mut self) -> Plan {
+        let low = self.random.pick(&[-2, -1, 0, 0, 1]);
+        let registers = vec![(low, low + self.random.between(1, 5) as i32), self.range()];
+        let own = || Box::new(Register(0));
+        let risky = match self.random.below(4) {
+            0 => Operation(TIMES, own(), Box::new(Constant(self.random.pick(&[i32::MAX, i32::MIN, i32::MAX / 2])))),
+            1 => Operation(PLUS, own(), Box::new(Constant(i32::MAX - self.random.below(3) as i32))),
+            _ => Operation(DIVIDE, Box::new(self.leaf(&registers)), own()),
+        };
+        let other = self.leaf(&registers);
+        let code = self.random.pick(&[EQUAL, LESS]);
+        let part = if self.random.chance(50) { Comparison(code, risky, other) } else { Comparison(code, other, risky) };
+        let guard = if self.random.chance(70) { Comparison(LESS, Constant(0), Register(0)) } else { self.side(&registers) };
+        let part = if self.random.chance(30) { Not(Box::new(part)) } else { part };
+        let (part, guard) = (Box::new(part), Box::new(guard));
+        let condition = if self.random.chance(70) { And(guard, part) } else { And(part, guard) };
+        let condition = if self.random.chance(30) { Not(Box::new(condition)) } else { condition };
+        let statements = vec![jump(self.times(), 2, &condition), skip(self.times()), halt()];
         Plan::of(0, vec![], vec![Thread { registers, statements }])
     }
 
@@ -921,7 +987,7 @@ impl Generator {
     /// A few locks, variables and registers, and fields up to a thread's first
     /// statement.
     fn start(&mut self) -> (Vec<u8>, usize, usize, usize) {
-        let (locks, variables, registers) = (self.random.below(3), self.random.below(3), self.random.below(3));
+        let (locks, variables, registers) = (self.random.below(3), self.random.below(3), self.random.pick(&[0, 1, 1, 2]));
         let opening = Plan::of(locks as u8, vec![(0, 0); variables], vec![]).limited(60).opening();
         let thread = Thread { registers: vec![(0, 1); registers], statements: vec![] };
         ([opening, thread.bytes()].concat(), locks, variables, registers)
@@ -933,8 +999,8 @@ impl Generator {
         if self.random.chance(25) {
             sheet.extend(field(6, &body(&skip((1, 1)))));
         }
-        let code = if self.random.chance(15) { self.random.pick(&[8, 9, 16, 255]) } else { self.random.below(8) as u8 };
-        let odd = |random: &mut Random, count: usize| match random.below(3) {
+        let code = self.random.pick(&[0, 1, 2, 2, 2, 2, 3, 3, 3, 3, 4, 5, 6, 7, 8, 255]);
+        let odd = |random: &mut Random, count: usize| match random.below(8) {
             0 => count as u8,
             1 => 255,
             _ => random.below(count.max(1)) as u8,
@@ -952,7 +1018,7 @@ impl Generator {
             rest.extend(expression);
         }
         let right = if code == 0 { (0, 0) } else { (1, 2) };
-        let times = if self.random.chance(60) {
+        let times = if self.random.chance(75) {
             right
         } else {
             self.random.pick(&[(0, 0), (0, 1), (1, 0), (2, 1), (1, 1), (0, 65_535), (65_535, 65_534), (65_535, 65_535)])
@@ -1081,12 +1147,15 @@ impl Generator {
         let mut entries = Vec::new();
         self.header_edges(&mut entries);
         self.count_edges(&mut entries);
+        self.closing_edges(&mut entries);
         self.statement_edges(&mut entries);
         self.nesting_edges(&mut entries);
         self.narrowing_edges(&mut entries);
         self.arithmetic_edges(&mut entries);
         self.cuts(&mut entries);
         self.lengths(&mut entries);
+        self.order_edges(&mut entries);
+        self.long_searches(&mut entries);
         self.long_sheets(&mut entries);
         entries
     }
@@ -1209,10 +1278,11 @@ impl Generator {
             for cut in [0, 1, 5, 6] {
                 entries.push(Entry { sheet: sheet[..sheet.len() - cut].to_vec(), length: PLAIN });
             }
-            let mut odd = sheet.clone();
-            let end = odd.len();
-            odd[end - 6] = 4;
-            entries.push(Entry { sheet: odd, length: PLAIN });
+            for tag in [2, 4, 7] {
+                let mut odd = sheet.clone();
+                odd[sheet.len() - 8] = tag;
+                entries.push(Entry { sheet: odd, length: PLAIN });
+            }
             statements[count - 1] = jump((1, 1), count, &True);
             statements[count - 2] = jump((1, 1), count + 1, &False);
             entries.push(Entry { sheet: Plan::of(0, vec![], vec![thread(0, statements)]).bytes(), length: PLAIN });
@@ -1222,6 +1292,49 @@ impl Generator {
             let statements = vec![jump((1, 1), target, &False), jump((1, 1), 2, &True), halt()];
             let plan = Plan::of(0, vec![], vec![thread(0, statements)]);
             entries.push(Entry { sheet: plan.bytes(), length: PLAIN });
+        }
+    }
+
+    /// Every way to close badly, and every way to go on, in the first and in
+    /// the fourth thread.
+    fn closing_edges(&mut self, entries: &mut Vec<Entry>) {
+        let (bad, good) = (jump((1, 1), 9, &False), jump((1, 1), 0, &False));
+        let far = jump((1, 1), 200, &False);
+        let plain = Thread { registers: vec![], statements: vec![halt()] };
+        let after: [&[u8]; 14] = [
+            &[],
+            &[4],
+            &[4, 0],
+            &[6],
+            &[9, 0],
+            &[4, 0, 0],
+            &[4, 0, 1],
+            &[4, 0, 2, 0, 0],
+            &[4, 0, 1, 9],
+            &[2, 0, 8],
+            &[5, 0, 1, 0],
+            &[6, 0, 5],
+            &[6, 0, 4, 0, 0, 0, 0],
+            &[0, 0, 0],
+        ];
+        for statements in [
+            vec![halt()],
+            vec![good.clone()],
+            vec![halt(), skip((1, 1))],
+            vec![bad.clone(), halt()],
+            vec![bad.clone(), far.clone(), good, halt()],
+            vec![bad.clone(), far],
+            vec![halt(), bad],
+        ] {
+            for before in [0, 3] {
+                let mut threads = vec![plain.clone(); before];
+                threads.push(Thread { registers: vec![], statements: statements.clone() });
+                let sheet = Plan::of(0, vec![], threads).limited(60).bytes();
+                for after in after {
+                    entries.push(Entry { sheet: [&sheet, after].concat(), length: PLAIN });
+                }
+                entries.push(Entry { sheet: [sheet, plain.bytes()].concat(), length: PLAIN });
+            }
         }
     }
 
@@ -1326,6 +1439,37 @@ impl Generator {
             ((i32::MIN, i32::MAX), (i32::MIN, i32::MAX)),
             ((i32::MIN, i32::MIN), (i32::MAX, i32::MAX)),
         ];
+        for range in [(3, 3), (3, 4), (3, 5), (i32::MIN, i32::MAX)] {
+            for code in [EQUAL, LESS] {
+                for negated in [false, true] {
+                    let comparison = Comparison(code, Register(0), Register(0));
+                    let condition = if negated { Not(Box::new(comparison)) } else { comparison };
+                    let mut statements = vec![jump((1, 1), 2, &condition), halt()];
+                    self.probes(1, &[range], &mut statements);
+                    let plan = Plan::of(0, vec![], vec![Thread { registers: vec![range], statements }]);
+                    entries.push(Entry { sheet: plan.bytes(), length: PLAIN });
+                }
+            }
+        }
+        // the right of an "and" has no failure where the left holds
+        for end in 4..=6 {
+            let (register, mirrored) = (Register(0), Operation(19, Box::new(Constant(9)), Box::new(Register(0))));
+            let below = Comparison(LESS, register.clone(), Constant(end));
+            for condition in [
+                And(Box::new(below.clone()), Box::new(Comparison(LESS, register.clone(), mirrored.clone()))),
+                And(Box::new(Not(Box::new(below.clone()))), Box::new(Comparison(LESS, mirrored, register))),
+            ] {
+                let probe = if self.random.chance(50) { below.clone() } else { Not(Box::new(below.clone())) };
+                let statements = vec![
+                    jump((1, 1), 3, &condition),
+                    jump((1, 1), 3, &probe),
+                    skip((1, 1)),
+                    halt(),
+                ];
+                let plan = Plan::of(0, vec![], vec![Thread { registers: vec![(0, 9)], statements }]);
+                entries.push(Entry { sheet: plan.bytes(), length: PLAIN });
+            }
+        }
         for (a, b) in pairs {
             for code in [EQUAL, LESS] {
                 for form in 0..4 {
@@ -1348,17 +1492,16 @@ impl Generator {
         }
     }
 
-    /// Every operator on ranges of each sign, then a probe of the result.
+    /// Every operator on ranges of each sign; the result's ends are then told
+    /// from their neighbours.
     fn arithmetic_edges(&mut self, entries: &mut Vec<Entry>) {
         let (least, most) = (i32::MIN, i32::MAX);
-        let ranges: [Range; 13] = [
+        let ranges: [Range; 11] = [
             (-7, -2),
             (-3, 4),
             (0, 5),
-            (0, 0),
             (2, 9),
             (-1, -1),
-            (1, 1),
             (least, least),
             (least, -1),
             (most, most),
@@ -1366,25 +1509,49 @@ impl Generator {
             (least + 1, most),
             (-46_341, 46_340),
         ];
+        let mut add = |registers: [Range; 2], value: Arithmetic, near: bool| {
+            let mut statements = vec![assign((1, 1), 0, &value)];
+            let (low, high) = value.range(&registers).unwrap_or(registers[0]);
+            let below = Constant(if near { low } else { low.saturating_add(1) });
+            let above = Constant(if near { high } else { high.saturating_sub(1) });
+            for probe in [Comparison(LESS, Register(0), below), Comparison(LESS, above, Register(0))] {
+                statements.push(jump((1, 1), statements.len() + 2, &probe));
+                statements.push(skip((1, 1)));
+            }
+            statements.push(halt());
+            let plan = Plan::of(0, vec![], vec![Thread { registers: registers.to_vec(), statements }]);
+            entries.push(Entry { sheet: plan.bytes(), length: PLAIN });
+        };
         for operator in PLUS..=DIVIDE {
             for a in ranges {
                 for b in ranges {
                     let value = Operation(operator, Box::new(Register(0)), Box::new(Register(1)));
-                    let mut known = vec![a, b];
-                    let result = value.range(&known);
-                    if result.is_none() && !self.random.chance(if operator == TIMES { 60 } else { 30 }) {
-                        continue;
+                    let whole = a.0 != a.1 || b.0 != b.1;
+                    match value.range(&[a, b]) {
+                        None if self.random.chance(if operator == DIVIDE { 50 } else { 30 }) => add([a, b], value, true),
+                        Some(_) if whole || self.random.chance(30) => {
+                            let near = self.random.chance(if operator < TIMES { 50 } else { 30 });
+                            add([a, b], value, near);
+                        }
+                        _ => {}
                     }
-                    known[0] = result.unwrap_or(a);
-                    let mut statements = vec![assign((1, 1), 0, &value)];
-                    let probe = self.probe(0, known[0]);
-                    statements.push(jump((1, 1), 3, &probe));
-                    statements.push(skip((1, 1)));
-                    statements.push(halt());
-                    let plan = Plan::of(0, vec![], vec![Thread { registers: vec![a, b], statements }]);
-                    entries.push(Entry { sheet: plan.bytes(), length: PLAIN });
                 }
             }
+        }
+        // the whole is in range, a part is not
+        for (outer, inner, a, b) in [
+            (19, PLUS, most, 1),
+            (PLUS, 19, least, 1),
+            (DIVIDE, TIMES, most, 2),
+            (DIVIDE, TIMES, 65_536, 65_536),
+            (DIVIDE, TIMES, least, -1),
+            (TIMES, DIVIDE, least, -1),
+            (PLUS, TIMES, -46_341, 46_341),
+        ] {
+            let part = Operation(inner, Box::new(Constant(a)), Box::new(Register(1)));
+            let value = Operation(outer, Box::new(part), Box::new(Register(1)));
+            add([(0, 0), (b, b)], value.clone(), true);
+            add([(0, 0), (b.min(2 * b), b.max(2 * b))], value, true);
         }
     }
 
@@ -1440,6 +1607,50 @@ impl Generator {
         }
     }
 
+    /// States to which several refusals of the search apply at once.
+    fn order_edges(&mut self, entries: &mut Vec<Entry>) {
+        let thread = |statements: Vec<Statement>| Thread { registers: vec![], statements };
+        let waits = thread(vec![skip((1, 3)), halt()]);
+        let divides = |times: Times| {
+            let value = Operation(DIVIDE, Box::new(Constant(1)), Box::new(Register(0)));
+            Thread { registers: vec![(-1, 1)], statements: vec![assign(times, 0, &value), halt()] }
+        };
+        let both = |first, second| thread(vec![lock((1, 1), first), lock((1, 1), second), halt()]);
+        for threads in [
+            vec![waits.clone(), waits.clone(), divides((1, 3))],
+            vec![waits.clone(), divides((3, 3)), divides((1, 4))],
+            vec![waits.clone(), divides((4, 4)), waits.clone()],
+            vec![waits.clone(), waits.clone(), waits],
+            vec![both(0, 1), both(1, 0)],
+        ] {
+            for (limit, budget) in [(1, 2), (2, 1), (2, 3), (3, 2), (3, 100), (60, 100)] {
+                for length in [100, 200, 300, PLAIN] {
+                    let mut plan = Plan::of(2, vec![], threads.clone()).limited(limit);
+                    plan.budget = budget;
+                    entries.push(Entry { sheet: plan.bytes(), length });
+                }
+            }
+        }
+    }
+
+    /// Searches of some thousand steps, the budget just enough and just not.
+    fn long_searches(&mut self, entries: &mut Vec<Entry>) {
+        let more = Operation(PLUS, Box::new(Register(0)), Box::new(Constant(1)));
+        let test = Comparison(LESS, Register(0), Constant(3000));
+        let statements = vec![assign((1, 1), 0, &more), jump((1, 2), 0, &test), halt()];
+        let counts = Thread { registers: vec![(0, 0)], statements };
+        let steps = Thread { registers: vec![], statements: vec![skip((1, 1)), skip((1, 2)), halt()] };
+        for threads in [vec![counts], vec![steps.clone(); 3], vec![steps; 4]] {
+            let mut plan = Plan::of(0, vec![], threads);
+            plan.budget = MOST_STEPS;
+            let Some(found) = answer(&plan.bytes(), PLAIN) else { continue };
+            for budget in [MOST_STEPS, found.steps as u32, found.steps as u32 - 1] {
+                plan.budget = budget;
+                entries.push(Entry { sheet: plan.bytes(), length: PLAIN });
+            }
+        }
+    }
+
     /// 16,384 bytes and one more.
     fn long_sheets(&mut self, entries: &mut Vec<Entry>) {
         fn tree(depth: usize) -> Arithmetic {
@@ -1490,7 +1701,6 @@ impl Generator {
         let more = [&sheet[..], &[6]].concat();
         entries.push(Entry { sheet: sheet.clone(), length: PLAIN });
         entries.push(Entry { sheet: more, length: PLAIN });
-        entries.push(Entry { sheet: vec![1; 16_384], length: PLAIN });
         entries.push(Entry { sheet: vec![0; 16_385], length: 0 });
         let mut long = sheet.clone();
         long.extend(field(6, &body(&halt())));
