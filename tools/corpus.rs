@@ -29,7 +29,7 @@ mod generator;
 #[allow(dead_code)]
 mod oracle;
 
-use generator::{answer, Entry, Generator};
+use generator::{answer, fields, Entry, Generator};
 use oracle::{recorded, Answer, Recorded};
 use std::collections::BTreeSet;
 use std::io::Write;
@@ -132,6 +132,32 @@ fn histogram(entries: &[Recorded]) {
         let count = entries.iter().filter(|entry| entry.answer.refusal == refusal).count();
         println!("| {refusal} | {count} |");
     }
+
+    // what stands in the sheets that read
+    let read: Vec<_> = entries.iter().filter(|entry| entry.answer.refusal == 0 || entry.answer.refusal > 9).collect();
+    let (mut threads, mut statements, mut expressions) = ([0; 5], [0; 8], [0; 64]);
+    for entry in &read {
+        let places = fields(&entry.sheet);
+        threads[places.iter().filter(|&&place| entry.sheet[place] == 4).count()] += 1;
+        for (index, &place) in places.iter().enumerate().filter(|&(_, &place)| entry.sheet[place] == 6) {
+            let end = places.get(index + 1).copied().unwrap_or(entry.sheet.len());
+            let code = usize::from(entry.sheet[place + 7]);
+            statements[code] += 1;
+            let mut at = if code == 2 || code == 3 { place + 9 } else { end };
+            while at < end {
+                let code = usize::from(entry.sheet[at]);
+                expressions[code] += 1;
+                at += [5, 2].get(code.wrapping_sub(16)).unwrap_or(&1);
+            }
+        }
+    }
+    println!("\n{} sheets read; with 1, 2, 3, 4 threads: {:?}", read.len(), &threads[1..]);
+    println!("statements with codes 0 to 7: {statements:?}");
+    println!("parts of expressions with codes 16 to 21: {:?}, 32 to 37: {:?}", &expressions[16..22], &expressions[32..38]);
+    let mut lengths: Vec<_> = entries.iter().map(|entry| entry.length).collect();
+    lengths.sort();
+    lengths.dedup();
+    println!("{} lengths of the buffer, {} to {}", lengths.len(), lengths[0], lengths[lengths.len() - 1]);
 }
 
 fn list(entries: &[Recorded]) {

@@ -285,7 +285,7 @@ impl Plan {
 }
 
 /// Offsets of the fields, as their length fields say.
-fn fields(sheet: &[u8]) -> Vec<usize> {
+pub fn fields(sheet: &[u8]) -> Vec<usize> {
     let mut places = Vec::new();
     let mut place = 0;
     while place + 3 <= sheet.len() {
@@ -388,8 +388,9 @@ impl Generator {
         (a.min(b), a.max(b))
     }
 
-    fn ranges(&mut self, count: usize) -> Vec<Range> {
-        (0..count).map(|_| self.range()).collect()
+    /// As many ranges as one of the counts says.
+    fn ranges(&mut self, counts: &[usize]) -> Vec<Range> {
+        (0..self.random.pick(counts)).map(|_| self.range()).collect()
     }
 
     fn times(&mut self) -> Times {
@@ -398,7 +399,9 @@ impl Generator {
             Pace::Unit => (1, 0),
             Pace::Tiny => (self.random.between(1, 4), self.random.below(4)),
             Pace::Wide => (self.random.between(1, 15), self.random.below(20)),
-            Pace::Huge => (self.random.pick(&[1, 2, 300, 40_000, 65_534, 65_535]), self.random.pick(&[0, 1, 500, 65_534])),
+            Pace::Huge => {
+                (self.random.pick(&[1, 2, 300, 40_000, 65_534, 65_535]), self.random.pick(&[0, 1, 500, 65_534]))
+            }
         };
         (least as u16, (least + spread).min(65_535) as u16)
     }
@@ -462,14 +465,27 @@ impl Generator {
         } else {
             Constant(self.near(left.range(known).unwrap_or((0, 9))))
         };
-        if self.random.chance(40) { Comparison(code, right, left) } else { Comparison(code, left, right) }
+        if self.random.chance(40) {
+            Comparison(code, right, left)
+        } else {
+            Comparison(code, left, right)
+        }
     }
 
-    /// A condition exactly `depth` deep, or a deep comparison beside it.
+    fn truth(&mut self) -> Condition {
+        if self.random.chance(50) {
+            True
+        } else {
+            False
+        }
+    }
+
+    /// A condition exactly `depth` deep, but for a truth in place of its
+    /// innermost comparison.
     fn condition(&mut self, depth: usize, known: &[Range]) -> Condition {
         let mut whole = match depth {
-            1 => return self.random.pick(&[true, false]).then_some(True).unwrap_or(False),
-            _ if self.random.chance(5) => self.random.pick(&[true, false]).then_some(True).unwrap_or(False),
+            1 => return self.truth(),
+            _ if self.random.chance(5) => self.truth(),
             _ => self.comparison(2, known),
         };
         for level in 2..depth {
@@ -477,12 +493,16 @@ impl Generator {
                 0 | 1 => Not(Box::new(whole)),
                 kind => {
                     let other = match self.random.below(10) {
-                        0 => self.random.pick(&[true, false]).then_some(True).unwrap_or(False),
+                        0 => self.truth(),
                         1 | 2 if level > 2 => Not(Box::new(self.comparison(2, known))),
                         _ => self.comparison(level.min(3), known),
                     };
                     let (whole, other) = (Box::new(whole), Box::new(other));
-                    if kind == 2 { And(other, whole) } else { And(whole, other) }
+                    if kind == 2 {
+                        And(other, whole)
+                    } else {
+                        And(whole, other)
+                    }
                 }
             };
         }
@@ -507,7 +527,11 @@ impl Generator {
         let (a, b) = (Register(register as u8), Constant(self.near(range)));
         let code = self.random.pick(&[EQUAL, LESS, LESS]);
         let probe = if self.random.chance(40) { Comparison(code, b, a) } else { Comparison(code, a, b) };
-        if self.random.chance(20) { Not(Box::new(probe)) } else { probe }
+        if self.random.chance(20) {
+            Not(Box::new(probe))
+        } else {
+            probe
+        }
     }
 
     /// Probes of the registers, each a jump over a skip, then halt.
@@ -542,8 +566,8 @@ impl Generator {
 
     /// One thread that works out values, then tells them apart.
     fn sequential(&mut self) -> Plan {
-        let variables = { let count = self.random.below(3); self.ranges(count) };
-        let registers = { let count = self.random.between(1, 3); self.ranges(count) };
+        let variables = self.ranges(&[0, 1, 2]);
+        let registers = self.ranges(&[1, 2, 3]);
         let mut known = registers.clone();
         let mut kept = variables.clone();
         let mut statements = Vec::new();
@@ -573,7 +597,7 @@ impl Generator {
 
     /// One thread with a condition, then probes on either side of it.
     fn branching(&mut self) -> Plan {
-        let registers = { let count = self.random.pick(&[1, 2, 2, 3]); self.ranges(count) };
+        let registers = self.ranges(&[1, 2, 2, 3]);
         let condition = self.any_condition(&registers);
         let mut statements = vec![jump(self.times(), 0, &condition)];
         let count = self.random.between(0, 2);
@@ -599,14 +623,22 @@ impl Generator {
         };
         let code = self.random.pick(&[EQUAL, LESS, LESS, LESS]);
         let register = Register(register as u8);
-        let side = if self.random.chance(50) { Comparison(code, register, other) } else { Comparison(code, other, register) };
-        if self.random.chance(50) { Not(Box::new(side)) } else { side }
+        let side = if self.random.chance(50) {
+            Comparison(code, register, other)
+        } else {
+            Comparison(code, other, register)
+        };
+        if self.random.chance(50) {
+            Not(Box::new(side))
+        } else {
+            side
+        }
     }
 
     /// A condition made of "and" and "not", then probes where it holds or fails.
     fn joined(&mut self) -> Plan {
         self.values = Values::Small;
-        let registers = { let count = self.random.pick(&[1, 2, 2]); self.ranges(count) };
+        let registers = self.ranges(&[1, 2, 2]);
         let mut condition = And(Box::new(self.side(&registers)), Box::new(self.side(&registers)));
         if self.random.chance(30) {
             let (whole, more) = (Box::new(Not(Box::new(condition))), Box::new(self.side(&registers)));
@@ -639,7 +671,11 @@ impl Generator {
         let other = self.leaf(&registers);
         let code = self.random.pick(&[EQUAL, LESS]);
         let part = if self.random.chance(50) { Comparison(code, risky, other) } else { Comparison(code, other, risky) };
-        let guard = if self.random.chance(70) { Comparison(LESS, Constant(0), Register(0)) } else { self.side(&registers) };
+        let guard = if self.random.chance(70) {
+            Comparison(LESS, Constant(0), Register(0))
+        } else {
+            self.side(&registers)
+        };
         let part = if self.random.chance(30) { Not(Box::new(part)) } else { part };
         let (part, guard) = (Box::new(part), Box::new(guard));
         let condition = if self.random.chance(70) { And(guard, part) } else { And(part, guard) };
@@ -654,7 +690,8 @@ impl Generator {
         let most = [4, 2, 1][count - 2];
         let threads = (0..count)
             .map(|_| {
-                let mut statements: Vec<Statement> = (0..self.random.between(1, most)).map(|_| skip(self.times())).collect();
+                let mut statements: Vec<Statement> =
+                    (0..self.random.between(1, most)).map(|_| skip(self.times())).collect();
                 let mut registers = vec![];
                 if self.random.chance(15) {
                     // something without a reading, perhaps never reached
@@ -722,11 +759,11 @@ impl Generator {
 
     /// Threads that store to and load from shared variables, with tests.
     fn messages(&mut self) -> Plan {
-        let variables = { let count = self.random.between(1, 2); self.ranges(count) };
+        let variables = self.ranges(&[1, 2]);
         let count = self.random.pick(&[2, 2, 2, 3]);
         let threads = (0..count)
             .map(|_| {
-                let registers = { let count = self.random.between(1, 2); self.ranges(count) };
+                let registers = self.ranges(&[1, 2]);
                 let mut statements = Vec::new();
                 for _ in 0..self.random.between(1, 2) {
                     let register = self.random.below(registers.len()) as u8;
@@ -756,14 +793,15 @@ impl Generator {
     /// Any statements, jumps anywhere, halts in the middle.
     fn mixed(&mut self) -> Plan {
         let count = self.random.pick(&[1, 1, 2, 2, 3, 4]);
-        let variables = { let count = self.random.pick(&[0, 1, 2, 8]); self.ranges(count.min(9 - 2 * count.min(3))) };
+        let variables = self.ranges(&[0, 0, 1, 1, 2, 3, 8]);
         let locks = self.random.below(3);
         let most = [6, 3, 2, 1][count - 1];
         let threads = (0..count)
             .map(|_| {
-                let registers = { let count = self.random.pick(&[0, 1, 1, 2]); self.ranges(count) };
+                let registers = self.ranges(&[0, 1, 1, 2]);
                 let length = self.random.between(1, most) + 1;
-                let statements = (1..length).map(|_| self.statement(&registers, variables.len(), locks, length)).collect();
+                let statements =
+                    (1..length).map(|_| self.statement(&registers, variables.len(), locks, length)).collect();
                 let mut thread = Thread { registers, statements };
                 thread.statements.push(halt());
                 thread
@@ -791,7 +829,11 @@ impl Generator {
                 12..=15 if !registers.is_empty() && variables > 0 => {
                     let register = self.random.below(registers.len()) as u8;
                     let variable = self.random.below(variables) as u8;
-                    return if self.random.chance(50) { store(times, register, variable) } else { load(times, register, variable) };
+                    return if self.random.chance(50) {
+                        store(times, register, variable)
+                    } else {
+                        load(times, register, variable)
+                    };
                 }
                 16..=19 if locks > 0 => {
                     let name = self.random.below(locks) as u8;
@@ -811,7 +853,11 @@ impl Generator {
     }
 
     fn length(&mut self) -> usize {
-        if self.random.chance(70) { self.random.pick(&LENGTHS) } else { self.random.below(2000) }
+        if self.random.chance(70) {
+            self.random.pick(&LENGTHS)
+        } else {
+            self.random.below(2000)
+        }
     }
 
     fn tuned(&mut self, mut plan: Plan) -> Entry {
@@ -837,8 +883,14 @@ impl Generator {
                     4 => plan.budget = (steps - 1).max(1),
                     5 => plan = plan.limited(high),
                     6 => plan = plan.limited(high.max(1) - 1),
-                    7 => length = least(1, 120, |slots| same(&plan, slots as usize * 100)) as usize * 100 + self.random.pick(&[0, 0, 1, 99]),
-                    8 => length = (least(1, 120, |slots| same(&plan, slots as usize * 100)) as usize * 100) - self.random.pick(&[1, 1, 100]),
+                    7 => {
+                        length = least(1, 120, |slots| same(&plan, slots as usize * 100)) as usize * 100
+                            + self.random.pick(&[0, 0, 1, 99])
+                    }
+                    8 => {
+                        length = (least(1, 120, |slots| same(&plan, slots as usize * 100)) as usize * 100)
+                            - self.random.pick(&[1, 1, 100])
+                    }
                     _ => {
                         length = least(1, 120, |slots| same(&plan, slots as usize * 100)) as usize * 100;
                         plan = plan.limited(high);
@@ -987,7 +1039,8 @@ impl Generator {
     /// A few locks, variables and registers, and fields up to a thread's first
     /// statement.
     fn start(&mut self) -> (Vec<u8>, usize, usize, usize) {
-        let (locks, variables, registers) = (self.random.below(3), self.random.below(3), self.random.pick(&[0, 1, 1, 2]));
+        let (locks, variables, registers) =
+            (self.random.below(3), self.random.below(3), self.random.pick(&[0, 1, 1, 2]));
         let opening = Plan::of(locks as u8, vec![(0, 0); variables], vec![]).limited(60).opening();
         let thread = Thread { registers: vec![(0, 1); registers], statements: vec![] };
         ([opening, thread.bytes()].concat(), locks, variables, registers)
@@ -1057,7 +1110,8 @@ impl Generator {
         }
         if self.random.chance(20) {
             // one deeper, on either side
-            let wrap: &[&[u8]] = if condition { &[&[34], &[35, 32], &[35, 33]] } else { &[&[18, 17, 0], &[19, 16, 0, 0, 0, 1]] };
+            let wrap: &[&[u8]] =
+                if condition { &[&[34], &[35, 32], &[35, 33]] } else { &[&[18, 17, 0], &[19, 16, 0, 0, 0, 1]] };
             let before = self.random.pick(wrap);
             bytes.splice(0..0, before.iter().copied());
         }
@@ -1224,7 +1278,8 @@ impl Generator {
             }
         }
         // the ranges of a variable and of a register
-        for range in [(0, 0), (1, 0), (-1, 0), (0, -1), (i32::MIN, i32::MAX), (i32::MAX, i32::MIN), (-2, -1), (-1, -2)] {
+        for range in [(0, 0), (1, 0), (-1, 0), (0, -1), (i32::MIN, i32::MAX), (i32::MAX, i32::MIN), (-2, -1), (-1, -2)]
+        {
             let halts = Thread { registers: vec![], statements: vec![halt()] };
             let plan = Plan::of(0, vec![range], vec![halts]);
             entries.push(Entry { sheet: plan.bytes(), length: PLAIN });
@@ -1246,7 +1301,9 @@ impl Generator {
             let plan = Plan::of(0, vec![(0, 0); count], vec![thread(0, vec![halt()])]);
             entries.push(Entry { sheet: plan.bytes(), length: PLAIN });
             // the last register and variable, and one past them
-            for (register, variable) in [(0, 0), (count as u8 - 1, 0), (count as u8, 0), (0, count as u8 - 1), (0, count as u8)] {
+            for (register, variable) in
+                [(0, 0), (count as u8 - 1, 0), (count as u8, 0), (0, count as u8 - 1), (0, count as u8)]
+            {
                 let statements = vec![store((1, 1), register, variable), halt()];
                 let plan = Plan::of(0, vec![(0, 0); 8], vec![thread(8, statements)]);
                 entries.push(Entry { sheet: plan.bytes(), length: PLAIN });
@@ -1340,14 +1397,28 @@ impl Generator {
 
     fn statement_edges(&mut self, entries: &mut Vec<Entry>) {
         // one register, one variable, one lock
-        let first = Plan::of(1, vec![(0, 0)], vec![Thread { registers: vec![(1, 1)], statements: vec![] }]).limited(70_000).bytes();
+        let first = Plan::of(1, vec![(0, 0)], vec![Thread { registers: vec![(1, 1)], statements: vec![] }])
+            .limited(70_000)
+            .bytes();
         let mut add = |bytes: &[u8]| {
             let sheet = [&first[..], &field(6, bytes), &field(6, &body(&halt()))].concat();
             entries.push(Entry { sheet, length: PLAIN });
         };
         let right: [&[u8]; 8] = [&[0], &[1], &[2, 0, 17, 0], &[3, 1, 32], &[4, 0, 0], &[5, 0, 0], &[6, 0], &[7, 0]];
         for rest in right {
-            for times in [(0, 0), (0, 1), (1, 0), (1, 1), (1, 2), (2, 1), (1, 65_535), (65_535, 65_535), (65_535, 1), (256, 255), (255, 256)] {
+            for times in [
+                (0, 0),
+                (0, 1),
+                (1, 0),
+                (1, 1),
+                (1, 2),
+                (2, 1),
+                (1, 65_535),
+                (65_535, 65_535),
+                (65_535, 1),
+                (256, 255),
+                (255, 256),
+            ] {
                 add(&body(&Statement { times, rest: rest.to_vec() }));
             }
             // every length near the right one, the times right and wrong
@@ -1376,7 +1447,20 @@ impl Generator {
         let constant = [16, 0, 0, 0, 7];
         for code in [0, 1, 15, 16, 17, 18, 19, 20, 21, 22, 31, 32, 33, 34, 35, 36, 37, 38, 64, 255] {
             for kind in [2, 3] {
-                for rest in [&[][..], &[17], &[17, 0], &[17, 1], &[17, 0, 17, 0], &[17, 1, 99], &[99, 17, 1], &[32], &[32, 33], &[32, 17, 0], &constant[1..], &constant] {
+                for rest in [
+                    &[][..],
+                    &[17],
+                    &[17, 0],
+                    &[17, 1],
+                    &[17, 0, 17, 0],
+                    &[17, 1, 99],
+                    &[99, 17, 1],
+                    &[32],
+                    &[32, 33],
+                    &[32, 17, 0],
+                    &constant[1..],
+                    &constant,
+                ] {
                     if rest.len() < 3 || self.random.chance(40) {
                         let rest = [&[kind, 0, code][..], rest].concat();
                         add(&body(&Statement { times: (1, 1), rest }));
@@ -1385,7 +1469,16 @@ impl Generator {
             }
         }
         // the name and the expression at fault together
-        for rest in [&[2, 1, 99][..], &[2, 1, 17, 1], &[2, 255, 16, 0], &[3, 9, 99], &[3, 9, 17, 1], &[3, 9, 36, 17, 1, 99], &[4, 1, 1], &[5, 1, 1]] {
+        for rest in [
+            &[2, 1, 99][..],
+            &[2, 1, 17, 1],
+            &[2, 255, 16, 0],
+            &[3, 9, 99],
+            &[3, 9, 17, 1],
+            &[3, 9, 36, 17, 1, 99],
+            &[4, 1, 1],
+            &[5, 1, 1],
+        ] {
             add(&body(&Statement { times: (1, 1), rest: rest.to_vec() }));
         }
     }
@@ -1460,12 +1553,7 @@ impl Generator {
                 And(Box::new(Not(Box::new(below.clone()))), Box::new(Comparison(LESS, mirrored, register))),
             ] {
                 let probe = if self.random.chance(50) { below.clone() } else { Not(Box::new(below.clone())) };
-                let statements = vec![
-                    jump((1, 1), 3, &condition),
-                    jump((1, 1), 3, &probe),
-                    skip((1, 1)),
-                    halt(),
-                ];
+                let statements = vec![jump((1, 1), 3, &condition), jump((1, 1), 3, &probe), skip((1, 1)), halt()];
                 let plan = Plan::of(0, vec![], vec![Thread { registers: vec![(0, 9)], statements }]);
                 entries.push(Entry { sheet: plan.bytes(), length: PLAIN });
             }
@@ -1528,7 +1616,9 @@ impl Generator {
                     let value = Operation(operator, Box::new(Register(0)), Box::new(Register(1)));
                     let whole = a.0 != a.1 || b.0 != b.1;
                     match value.range(&[a, b]) {
-                        None if self.random.chance(if operator == DIVIDE { 50 } else { 30 }) => add([a, b], value, true),
+                        None if self.random.chance(if operator == DIVIDE { 50 } else { 30 }) => {
+                            add([a, b], value, true)
+                        }
                         Some(_) if whole || self.random.chance(30) => {
                             let near = self.random.chance(if operator < TIMES { 50 } else { 30 });
                             add([a, b], value, near);
@@ -1688,7 +1778,9 @@ impl Generator {
                     match size {
                         Some(11) => statements.push(assign((1, 1), 0, &tree(1))),
                         Some(14) => statements.push(assign((1, 1), 0, &tree(2))),
-                        Some(17) => statements.push(assign((1, 1), 0, &Operation(PLUS, Box::new(tree(2)), Box::new(tree(1))))),
+                        Some(17) => {
+                            statements.push(assign((1, 1), 0, &Operation(PLUS, Box::new(tree(2)), Box::new(tree(1)))))
+                        }
                         _ => statements.push(skip((1, 1))),
                     }
                 }

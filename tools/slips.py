@@ -318,6 +318,22 @@ slip("branches not narrowed", "the registers stay as they were in both branches"
 slip("yes branch only", "an undecided comparison follows the yes branch only",
      ("                if !narrow(condition, yes, &mut own.registers) {", "                if !narrow(condition, yes, &mut own.registers) || !yes && narrow(condition, true, &mut state.threads[thread].registers.clone()) {"))
 
+# ---- values written
+
+ASSIGN = "            Action::Assign { register, .. } => own.registers[register] = value,"
+STORE = "            Action::Store { register, variable } => next.variables[variable] = own.registers[register],"
+LOAD = "            Action::Load { register, variable } => own.registers[register] = next.variables[variable],"
+JOIN = "Interval {{ low: {0}.low.min({1}.low), high: {0}.high.max({1}.high) }}"
+slip("assign joins", "assign joins the value to the register's", (ASSIGN, ASSIGN.replace("= value", "= " + JOIN.format("value", "own.registers[register]"))))
+slip("store joins", "store joins the value to the variable's",
+     (STORE, STORE.replace("= own.registers[register]", "= " + JOIN.format("own.registers[register]", "next.variables[variable]"))))
+slip("load joins", "load joins the value to the register's",
+     (LOAD, LOAD.replace("= next.variables[variable]", "= " + JOIN.format("next.variables[variable]", "own.registers[register]"))))
+slip("store forgets", "store leaves the variable", (STORE, "            Action::Store { .. } => {}"))
+slip("load forgets", "load leaves the register", (LOAD, "            Action::Load { .. } => {}"))
+slip("load of the start", "load gives the variable's starting range", (LOAD, LOAD.replace("next.variables", "program.variables")))
+slip("load narrowed to the low", "load gives the variable's low only", (LOAD, LOAD.replace("next.variables[variable]", "Interval::single(next.variables[variable].low)")))
+
 # ---- locks
 
 slip("unlock frees another's lock", "unlock frees the lock whoever owns it", ("    if owners[lock] == Some(thread as u8) {\n", "    if true || owners[lock] == Some(thread as u8) {\n"))
