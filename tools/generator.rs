@@ -1315,6 +1315,11 @@ impl Generator {
                 entries.push(Entry { sheet, length: PLAIN });
             }
         }
+        // a ninth register, cut short or at fault
+        for last in [&[5, 0, 8][..], &[5, 0, 1, 0], &[5, 0]] {
+            let sheet = [&Plan::of(0, vec![], vec![thread(8, vec![])]).bytes(), last].concat();
+            entries.push(Entry { sheet, length: PLAIN });
+        }
         for length in [0, 2] {
             let sheet = [Plan::of(0, vec![], vec![]).bytes(), field(4, &[9, 9][..length])].concat();
             entries.push(Entry { sheet, length: PLAIN });
@@ -1518,7 +1523,7 @@ impl Generator {
     fn narrowing_edges(&mut self, entries: &mut Vec<Entry>) {
         self.values = Values::Small;
         self.pace = Pace::Unit;
-        let pairs: [(Range, Range); 12] = [
+        let pairs: [(Range, Range); 15] = [
             ((0, 5), (2, 3)),
             ((2, 3), (0, 5)),
             ((0, 3), (2, 5)),
@@ -1529,6 +1534,9 @@ impl Generator {
             ((2, 3), (0, 1)),
             ((2, 2), (2, 2)),
             ((2, 2), (2, 3)),
+            ((2, 4), (2, 2)),
+            ((2, 4), (4, 4)),
+            ((2, 3), (3, 3)),
             ((i32::MIN, i32::MAX), (i32::MIN, i32::MAX)),
             ((i32::MIN, i32::MIN), (i32::MAX, i32::MAX)),
         ];
@@ -1627,6 +1635,11 @@ impl Generator {
                     }
                 }
             }
+        }
+        for (a, b) in [(least, -1), (least, -2), (-5, -1), (least + 1, -1)] {
+            let value = Operation(DIVIDE, Box::new(Register(0)), Box::new(Register(1)));
+            add([(least, a), (b, -1)], value.clone(), true);
+            add([(a, a), (b, b)], value, false);
         }
         // the whole is in range, a part is not
         for (outer, inner, a, b) in [

@@ -1,12 +1,12 @@
 #!/usr/bin/env python3
 """Compares the formal definitions of crates/rules with the oracle.
 
-    try_rules.py SEED COUNT
+    try_rules.py SEED COUNT       random small sheets (tools/corpus.rs)
+    try_rules.py CORPUS           a corpus, but for its longest sheets and searches
 
-Makes COUNT random small sheets (tools/corpus.rs), and states of each, beside a
-scratch copy of the definitions, that `answer` gives the oracle's five numbers:
-one definition a sheet, proved by computing. Needs rustc and rt. Exit status 0 if
-all agree.
+States of each sheet, beside a scratch copy of the definitions, that `answer`
+gives the oracle's five numbers: one definition a sheet, proved by computing.
+Needs rustc and rt. Exit status 0 if all agree.
 """
 
 import os
@@ -21,6 +21,8 @@ RULES = os.path.join(ROOT, "crates", "rules")
 SCRATCH = os.path.join(ROOT, "target", "try", "rules")
 PER_FILE = 50
 FRONT = 19
+MOST_BYTES = 1000
+MOST_STEPS = 2000
 
 HEAD = """use mathlib.Core.Path.{_≡_, refl}
 use mathlib.Core.List.{[], _∷_}
@@ -83,9 +85,15 @@ def check(numbered):
 
 
 def main(arguments):
-    if len(arguments) != 2:
-        sys.exit("usage: try_rules.py SEED COUNT")
-    sheets = small_sheets(*arguments)
+    if len(arguments) == 2:
+        sheets = small_sheets(*arguments)
+    elif len(arguments) == 1:
+        with open(arguments[0], "rb") as file:
+            sheets = list(entries(file.read()))
+    else:
+        sys.exit("usage: try_rules.py SEED COUNT | CORPUS")
+    whole = len(sheets)
+    sheets = [fact for fact in sheets if len(fact[0]) <= MOST_BYTES and fact[2][2] <= MOST_STEPS]
     left = list(enumerate(sheets))
     differ = []
     while True:
@@ -101,7 +109,7 @@ def main(arguments):
         print(f"differs: length {length}, oracle {' '.join(map(str, five))}, sheet {sheet.hex().upper()}")
     of = [sum(five[0] == refusal for _, _, five in sheets) for refusal in range(16)]
     print("by refusal:", " ".join(f"{refusal}:{count}" for refusal, count in enumerate(of)))
-    print(f"{len(sheets)} sheets compared, {len(differ)} differ")
+    print(f"{len(sheets)} sheets compared, {len(differ)} differ, {whole - len(sheets)} left out")
     sys.exit(bool(differ))
 
 
