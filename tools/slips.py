@@ -6,7 +6,9 @@
 Each slip is a name, what it does, and edits of tools/oracle.rs (old text, which
 stands there exactly once, and new text). The edited oracle is compiled and
 answers the corpus; the table printed gives the entries it answers otherwise. An
-oracle that panics on an entry, or does not end in time, has been noticed too.
+oracle that panics on an entry, or does not end in time, has been noticed too. A
+second table has the changes that only say a rule in other words. Exit status 0 if
+every slip is noticed and no other change is.
 """
 
 import os
@@ -19,10 +21,16 @@ TOOLS = os.path.dirname(os.path.abspath(__file__))
 SECONDS = 60
 
 SLIPS = []
+SAME = []
 
 
 def slip(name, what, *edits):
     SLIPS.append((name, what, edits))
+
+
+def same(name, why, *edits):
+    """A rule in other words."""
+    SAME.append((name, why, edits))
 
 
 def constant(name, old, new):
@@ -453,6 +461,21 @@ slip("label met", "the window need only meet the label", ("program.label_low <= 
 slip("15 without the window", "15 gives no window", ("place: 0, steps, low, high }\n", "place: 0, steps, low: if kept { low } else { 0 }, high: if kept { high } else { 0 } }\n"))
 
 
+# ---- the same rules in other words
+
+same("divisor 0 strictly inside", "an end that is 0 has no quotient, which is 10 as well", ("right.low <= 0 && 0 <= right.high", "right.low < 0 && 0 < right.high"))
+same("a lowered register is not empty", "the tests before it leave a value wherever a high is lowered",
+     ("        register.high = register.high.min(bound);\n        return register.low <= register.high;", "        register.high = register.high.min(bound);"))
+same("less worked out again", "lowering the left's high leaves its low, the only end that the right's rule takes",
+     (" && raise(right, a.low + 1, registers)", " && {\n                    let (a, _) = both(left, right, registers);\n                    raise(right, a.low + 1, registers)\n                }"))
+same("fifth thread before its tag", "where four threads have closed, only tag 4 or the end can follow",
+     ("        if reader.tag()? != 4 {\n            return refuse(OUT_OF_TURN, place);\n        }\n        if threads.len() == MAX_THREADS {\n            return refuse(TOO_MANY, place);\n        }\n",
+      "        let tag = reader.tag()?;\n        if threads.len() == MAX_THREADS {\n            return refuse(TOO_MANY, place);\n        }\n        if tag != 4 {\n            return refuse(OUT_OF_TURN, place);\n        }\n"))
+same("variable before register", "a store's absent register and variable are both 5 at the same place",
+     ("Action::Store { register: name(5, names.registers)?, variable: name(6, names.variables)? }",
+      "Action::Store { variable: name(6, names.variables)?, register: name(5, names.registers)? }"))
+
+
 def edited(text, name, edits):
     for old, new in edits:
         if text.count(old) != 1:
@@ -487,17 +510,22 @@ def main(arguments):
         sys.exit("usage: slips.py [--only WORD] CORPUS")
     with open(os.path.join(TOOLS, "oracle.rs"), encoding="utf-8") as file:
         oracle = file.read()
-    texts = [(name, what, edited(oracle, name, edits)) for name, what, edits in SLIPS if only in name]
-    unnoticed = 0
+    tables = [[(name, what, edited(oracle, name, edits)) for name, what, edits in table if only in name]
+              for table in (SLIPS, SAME)]
+    noticed = []
     with tempfile.TemporaryDirectory() as folder:
         if changed(oracle, arguments[0], folder) != 0:
             sys.exit("slips.py: the oracle itself answers the corpus otherwise")
-        print("| slip | what | entries changed |\n|---|---|---|")
-        for name, what, text in texts:
-            count = changed(text, arguments[0], folder)
-            unnoticed += count == 0
-            print(f"| {name} | {what} | {count} |", flush=True)
-    print(f"\n{len(texts)} slips, {unnoticed} unnoticed")
+        for heads, texts in zip(("slip | what", "same rule | why"), tables):
+            print(f"| {heads} | entries changed |\n|---|---|---|")
+            noticed.append(0)
+            for name, what, text in texts:
+                count = changed(text, arguments[0], folder)
+                noticed[-1] += count != 0
+                print(f"| {name} | {what} | {count} |", flush=True)
+            print()
+    print(f"{len(tables[0])} slips, {len(tables[0]) - noticed[0]} unnoticed; {len(tables[1])} same rules, {noticed[1]} noticed")
+    sys.exit(noticed != [len(tables[0]), 0])
 
 
 if __name__ == "__main__":

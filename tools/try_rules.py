@@ -2,7 +2,7 @@
 """Compares the formal definitions of crates/rules with the oracle.
 
     try_rules.py SEED COUNT       random small sheets (tools/corpus.rs)
-    try_rules.py CORPUS           a corpus, but for its longest sheets and searches
+    try_rules.py CORPUS           a corpus, but for long sheets that are read whole
 
 States of each sheet, beside a scratch copy of the definitions, that `answer`
 gives the oracle's five numbers: one definition a sheet, proved by computing.
@@ -22,7 +22,7 @@ SCRATCH = os.path.join(ROOT, "target", "try", "rules")
 PER_FILE = 50
 FRONT = 19
 MOST_BYTES = 1000
-MOST_STEPS = 2000
+TOO_LONG = 9
 
 HEAD = """use mathlib.Core.Path.{_≡_, refl}
 use mathlib.Core.List.{[], _∷_}
@@ -93,7 +93,7 @@ def main(arguments):
     else:
         sys.exit("usage: try_rules.py SEED COUNT | CORPUS")
     whole = len(sheets)
-    sheets = [fact for fact in sheets if len(fact[0]) <= MOST_BYTES and fact[2][2] <= MOST_STEPS]
+    sheets = [fact for fact in sheets if len(fact[0]) <= MOST_BYTES or fact[2][0] == TOO_LONG]
     left = list(enumerate(sheets))
     differ = []
     while True:
