@@ -1222,14 +1222,18 @@ pub fn recorded(bytes: &[u8]) -> Option<Vec<Recorded>> {
     rest.is_empty().then_some(entries)
 }
 
-/// How many entries are answered otherwise, or not answered for a panic.
-fn changed(entries: &[Recorded]) -> usize {
+/// How many entries are answered otherwise, and how many end in a panic.
+fn changed(entries: &[Recorded]) -> (usize, usize) {
     panic::set_hook(Box::new(|_| {}));
-    let kept = |entry: &&Recorded| match panic::catch_unwind(|| check(&entry.sheet, entry.length)) {
-        Ok(answer) => answer == entry.answer,
-        Err(_) => false,
-    };
-    entries.len() - entries.iter().filter(kept).count()
+    let (mut otherwise, mut panics) = (0, 0);
+    for entry in entries {
+        match panic::catch_unwind(|| check(&entry.sheet, entry.length)) {
+            Ok(answer) if answer == entry.answer => {}
+            Ok(_) => otherwise += 1,
+            Err(_) => panics += 1,
+        }
+    }
+    (otherwise, panics)
 }
 
 // ---------------------------------------------------------------------------
@@ -1313,7 +1317,8 @@ fn main() {
         ["corpus", file] => {
             let bytes = fs::read(file).unwrap_or_else(|error| fail(format!("{file}: {error}")));
             let entries = recorded(&bytes).unwrap_or_else(|| fail(format!("{file}: not a corpus")));
-            println!("{} of {} entries are answered otherwise", changed(&entries), entries.len());
+            let (otherwise, panics) = changed(&entries);
+            println!("{otherwise} of {} entries are answered otherwise, {panics} end in a panic", entries.len());
         }
         _ => fail(USAGE),
     }

@@ -5,8 +5,8 @@
 
 Each slip is a name, what it does, and edits of tools/oracle.rs (old text, which
 stands there exactly once, and new text). The edited oracle is compiled and
-answers the corpus; the table printed gives the entries it answers otherwise. An
-oracle that panics on an entry, or does not end in time, has been noticed too. A
+answers the corpus; the table printed gives the entries it answers otherwise, and
+those on which it panics. An oracle that does not end in time has been noticed too. A
 second table has the changes that only say a rule in other words. Exit status 0 if
 every slip is noticed and no other change is.
 """
@@ -242,13 +242,17 @@ slip("greatest is the least", "the greatest is taken as the least over the ends"
 
 # ---- conditions
 
+# a part without a reading may be anything
+ANYTHING = ("    (interval_of(left, registers).expect(reading), interval_of(right, registers).expect(reading))",
+            "    let (_, anything) = (reading, Interval { low: i32::MIN, high: i32::MAX });\n"
+            "    (interval_of(left, registers).unwrap_or(anything), interval_of(right, registers).unwrap_or(anything))")
 slip("divisor after narrowing", "10 is looked for on the right of and after narrowing by the left",
      ("has_reading(left, registers) && has_reading(right, registers)",
-      "{\n            let mut narrowed = *registers;\n            has_reading(left, registers) && (!narrow(left, true, &mut narrowed) || has_reading(right, &narrowed))\n        }"))
+      "{\n            let mut narrowed = *registers;\n            has_reading(left, registers) && (!narrow(left, true, &mut narrowed) || has_reading(right, &narrowed))\n        }"), ANYTHING)
 slip("right of and not looked at", "10 is looked for on the left of and only",
-     ("has_reading(left, registers) && has_reading(right, registers)", "has_reading(left, registers) && (has_reading(right, registers) || true)"))
+     ("has_reading(left, registers) && has_reading(right, registers)", "has_reading(left, registers) && (has_reading(right, registers) || true)"), ANYTHING)
 slip("right side not looked at", "10 is looked for on the left of a comparison only",
-     ("interval_of(left, registers).is_some() && interval_of(right, registers).is_some()", "interval_of(left, registers).is_some()"))
+     ("interval_of(left, registers).is_some() && interval_of(right, registers).is_some()", "interval_of(left, registers).is_some()"), ANYTHING)
 slip("right of and first", "yes: and narrows by the right, then by the left",
      ("if yes => narrow(left, true, registers) && narrow(right, true, registers),", "if yes => narrow(right, true, registers) && narrow(left, true, registers),"))
 slip("and without chaining", "yes: each side of and narrows the registers before it, and the results are met",
@@ -498,8 +502,11 @@ def changed(text, corpus, folder):
         run = subprocess.run([program, "corpus", corpus], capture_output=True, text=True, timeout=SECONDS)
     except subprocess.TimeoutExpired:
         return "no end"
-    found = re.match(r"(\d+) of", run.stdout)
-    return int(found.group(1)) if run.returncode == 0 and found else "no answer"
+    found = re.match(r"(\d+) of \d+ entries are answered otherwise, (\d+) end in a panic", run.stdout)
+    if run.returncode != 0 or not found:
+        return "no answer"
+    otherwise, panics = int(found.group(1)), int(found.group(2))
+    return f"{otherwise} and {panics} panics" if panics else otherwise
 
 
 def main(arguments):
