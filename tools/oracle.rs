@@ -9,13 +9,16 @@
 //!     oracle runs SEED COUNT    COUNT random timed runs
 //!     oracle all CAP            every timed run, at most CAP events
 //!     oracle bench LENGTH       steps of the search per second
+//!     oracle corpus FILE        the entries of a corpus that are answered otherwise
 //!
 //! Sentences in quotation marks are those of the specification.
 
 use std::convert::TryFrom;
 use std::env;
 use std::fmt;
+use std::fs;
 use std::io::{self, Read};
+use std::panic;
 use std::process;
 use std::time::{Duration, Instant};
 
@@ -728,12 +731,12 @@ fn waits(action: &Action, thread: usize, owners: &[Option<u8>; MAX_LOCKS]) -> bo
 
 /// The five numbers.
 #[derive(Clone, Copy, PartialEq, Eq, Debug)]
-struct Answer {
-    refusal: u8,
-    place: usize,
-    steps: u64,
-    low: u64,
-    high: u64,
+pub struct Answer {
+    pub refusal: u8,
+    pub place: usize,
+    pub steps: u64,
+    pub low: u64,
+    pub high: u64,
 }
 
 impl fmt::Display for Answer {
@@ -743,7 +746,7 @@ impl fmt::Display for Answer {
 }
 
 /// The five numbers of a sheet with a work buffer of the given length.
-fn check(sheet: &[u8], length: usize) -> Answer {
+pub fn check(sheet: &[u8], length: usize) -> Answer {
     match read_program(sheet) {
         Ok(program) => search(&program, length / STATE_LENGTH),
         Err(Refusal { number, place }) => Answer { refusal: number, place, steps: 0, low: 0, high: 0 },
@@ -1185,10 +1188,60 @@ fn next_values(values: &mut [i32], ranges: &[Interval]) -> bool {
 }
 
 // ---------------------------------------------------------------------------
+// The corpus
+// ---------------------------------------------------------------------------
+
+/// An entry of a corpus; corpus.rs describes the file.
+pub struct Recorded {
+    pub sheet: Vec<u8>,
+    pub length: usize,
+    pub answer: Answer,
+}
+
+/// The entries of a corpus, or None if the bytes are not of its form.
+pub fn recorded(bytes: &[u8]) -> Option<Vec<Recorded>> {
+    let count = unsigned(bytes.get(..4)?);
+    let mut rest = &bytes[4..];
+    let mut entries = Vec::new();
+    for _ in 0..count {
+        let front = rest.get(..19)?;
+        let end = 19 + unsigned(&front[..2]) as usize;
+        entries.push(Recorded {
+            sheet: rest.get(19..end)?.to_vec(),
+            length: unsigned(&front[2..4]) as usize,
+            answer: Answer {
+                refusal: front[4],
+                place: unsigned(&front[5..7]) as usize,
+                steps: unsigned(&front[7..11]),
+                low: unsigned(&front[11..15]),
+                high: unsigned(&front[15..19]),
+            },
+        });
+        rest = &rest[end..];
+    }
+    rest.is_empty().then_some(entries)
+}
+
+/// How many entries are answered otherwise, and how many end in a panic.
+fn changed(entries: &[Recorded]) -> (usize, usize) {
+    panic::set_hook(Box::new(|_| {}));
+    let (mut otherwise, mut panics) = (0, 0);
+    for entry in entries {
+        match panic::catch_unwind(|| check(&entry.sheet, entry.length)) {
+            Ok(answer) if answer == entry.answer => {}
+            Ok(_) => otherwise += 1,
+            Err(_) => panics += 1,
+        }
+    }
+    (otherwise, panics)
+}
+
+// ---------------------------------------------------------------------------
 // The command line
 // ---------------------------------------------------------------------------
 
-const USAGE: &str = "usage: oracle check [LENGTH] | hex [LENGTH] | runs SEED COUNT | all CAP | bench LENGTH";
+const USAGE: &str =
+    "usage: oracle check [LENGTH] | hex [LENGTH] | runs SEED COUNT | all CAP | bench LENGTH | corpus FILE";
 
 fn fail(message: impl fmt::Display) -> ! {
     eprintln!("oracle: {message}");
@@ -1260,6 +1313,12 @@ fn main() {
         }
         ["bench", length] => {
             println!("{:.0} steps per second", bench(&standard_input(), number(length) as usize));
+        }
+        ["corpus", file] => {
+            let bytes = fs::read(file).unwrap_or_else(|error| fail(format!("{file}: {error}")));
+            let entries = recorded(&bytes).unwrap_or_else(|| fail(format!("{file}: not a corpus")));
+            let (otherwise, panics) = changed(&entries);
+            println!("{otherwise} of {} entries are answered otherwise, {panics} end in a panic", entries.len());
         }
         _ => fail(USAGE),
     }
