@@ -3,10 +3,10 @@
 use Prim.Native.Nat.{ℕ, zero, suc, _+_, _*_, _-_, _/_, _^_, _≤_, _<_, zero-le}
 use mathlib.Core.Path.{_≡_, refl, sym, ap, ap₂, subst, subst₂, _∙_}
 use mathlib.Core.Logic.{_≢_}
-use mathlib.Core.Bool.{Bool, true, false, cond, _&&_}
+use mathlib.Core.Bool.{Bool, true, false, cond}
 use native.Mathlib.Nat.{div-zero, le-refl, le-trans, le-of-lt, mul-le-mul, div-le-self}
 use native.Mathlib.Omega.{arith}
-use lib.Dec.{T, ltb, leb, leb·suc-suc, leb·zero, leb·suc-zero}
+use lib.Dec.{T, ltb}
 use lib.IntN.{ℤ, pos, negsuc, negℤ, sucℤ, predℤ, _+ℤ_, _-ℤ_, _*ℤ_, +ℤ-sucℤ, +ℤ-predℤ, +ℤ-idr}
 use lib.Signed.{mag, quotZ, leZ, ltZ}
 use mir.Syntax.{Width, w32, w64}
@@ -15,6 +15,7 @@ use mir.Facts.{toZ-ofZ, sfits-widen}
 use borrow.Author.Needs.{needs}
 use borrow.Author.Tests.{ltb-true}
 use Rattle.rules.specs.Interval.{inRange, minZ, maxZ}
+use Rattle.rules.proofs.Interval.{in-range-is}
 
 -- ---- the bits of a number that fits are the number (`toZ-ofZ`), through a cast from 32 bits to 64 too
 abbrev pub wide : ℤ → ℤ
@@ -140,18 +141,6 @@ module _ (w : Width) (x y : ℤ) (e : leZ (toZ w (ofZ w x)) (toZ w (ofZ w y)) �
 true-false {ℓ} : {X : Type ℓ} → true ≡ false → X
 true-false e = absurd (subst T e tt)
 
--- ---- the range of a width is a bound on the magnitude
-and-true : (t : Bool) → (t && true) ≡ t
-and-true true = refl
-and-true false = refl
-
-pub in-range : (n : ℕ) (z : ℤ) → inRange n z ≡ ltb (mag z) n
-unfolding inRange
-in-range zero (pos k) = rw (leb·zero k)
-in-range zero (negsuc k) = sym (leb·suc-zero k)
-in-range (suc h) (pos k) = refl
-in-range (suc h) (negsuc k) = and-true (leb k h) ∙ sym (leb·suc-suc k h)
-
 -- ---- a divisor
 positive : {z : ℤ} → SFits w64 z → z ≢ pos 0 → 0 < ofZ w64 z
 positive {z = pos zero} h ne = absurd (ne refl)
@@ -162,7 +151,7 @@ pub divides : (z : ℤ) → SFits w32 z → z ≢ pos 0 → 0 < ofZ w64 (toZ w32
 divides z h ne = rw (toZ-ofZ h) (positive (sfits-widen tt h) ne)
 
 pub in-fits : {z : ℤ} → inRange (2 ^ 31) z ≡ true → SFits w32 z
-in-fits {z} e = record { sfits = ltb-true (mag z) (2 ^ 31) (sym (in-range (2 ^ 31) z) ∙ e) }
+in-fits {z} e = record { sfits = ltb-true (mag z) (2 ^ 31) (sym (in-range-is (2 ^ 31) z) ∙ e) }
 
 -- ---- one more and one less
 pub plus-one : (z : ℤ) → z +ℤ pos 1 ≡ sucℤ z

@@ -24,7 +24,7 @@ ghost use Rattle.reader.specs.Index.{targetAt, targetsAt, lastAt, Statem
 
 const DEEPEST: usize = 12;
 
-const MOST_STATEMENTS: usize = 64;
+pub const MOST_STATEMENTS: usize = 64;
 
 // What a thread's statements may name: its registers, and the sheet's variables and locks.
 pub struct Names {

@@ -4,6 +4,7 @@ use crate::fields::open_end;
 use crate::outcome::Count;
 use crate::outcome::End;
 use crate::ranges::registers_end;
+use crate::statements::MOST_STATEMENTS;
 use crate::statements::Names;
 use crate::statements::close_end;
 use crate::statements::read_statements;
@@ -17,8 +18,6 @@ ghost use Rattle.reader.specs.Outcome.{failure};
 ghost use Rattle.reader.specs.Index.{ThreadRead, ThreadsRead, entryWith};
 
 const MOST_THREADS: usize = 4;
-
-const MOST_STATEMENTS: usize = 64;
 
 // Where a thread's field of tag 4 stands, and how many registers and statements it has.
 pub struct ThreadEntry {

@@ -2,6 +2,8 @@
 use mathlib.Core.Path.{_≡_, refl}
 use Rattle.rules.specs.Refusal as R
 use Rattle.refusal.specs.Shape.{refusalOf, ruleOf}
+use Rattle.refusal.specs.declared.Refusal.{Refusal}
+use Rattle.refusal.specs.declared.Refusal.the-variants.{Short, OutOfTurn, BadLength, OffRange, NoSuchName, BadExpression, NoHalt, TooMany, TooLong, NoReading, Stuck, PastLimit, OutOfSteps, OutOfRoom, LabelBroken}
 
 pub rule-of-refusal : (r : R.Refusal) → ruleOf (refusalOf r) ≡ r
 rule-of-refusal R.short = refl
@@ -19,3 +21,20 @@ rule-of-refusal R.pastLimit = refl
 rule-of-refusal R.outOfSteps = refl
 rule-of-refusal R.outOfRoom = refl
 rule-of-refusal R.labelBroken = refl
+
+pub refusal-of-rule : (r : Refusal) → refusalOf (ruleOf r) ≡ r
+refusal-of-rule Short = refl
+refusal-of-rule OutOfTurn = refl
+refusal-of-rule BadLength = refl
+refusal-of-rule OffRange = refl
+refusal-of-rule NoSuchName = refl
+refusal-of-rule BadExpression = refl
+refusal-of-rule NoHalt = refl
+refusal-of-rule TooMany = refl
+refusal-of-rule TooLong = refl
+refusal-of-rule NoReading = refl
+refusal-of-rule Stuck = refl
+refusal-of-rule PastLimit = refl
+refusal-of-rule OutOfSteps = refl
+refusal-of-rule OutOfRoom = refl
+refusal-of-rule LabelBroken = refl

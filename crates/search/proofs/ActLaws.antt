@@ -20,9 +20,9 @@ use Rattle.rules.specs.Expression.{Regs, evaluate, allParts, narrowYes, narrowN
 use Rattle.rules.specs.Format.{Bytes, Names, got, readArith, readCondition}
 use Rattle.rules.specs.Search as S
 use Rattle.rules.specs.Search.{effect, fromValue, branches, unlessEmpty}
-use Rattle.refusal.specs.Shape.{refusalOf, ruleOf}
+use Rattle.refusal.specs.Shape.{ruleOf}
+use Rattle.refusal.proofs.Laws.{refusal-of-rule}
 use Rattle.refusal.specs.declared.Refusal.{Refusal}
-use Rattle.refusal.specs.declared.Refusal.the-variants.{Short, OutOfTurn, BadLength, OffRange, NoSuchName, BadExpression, NoHalt, TooMany, TooLong, NoReading, Stuck, PastLimit, OutOfSteps, OutOfRoom, LabelBroken}
 use Rattle.interval.specs.declared.Span.{Span}
 use Rattle.interval.specs.Shape.{intervalOf}
 use Rattle.expression.specs.Evaluation.{regsOf}
@@ -117,30 +117,13 @@ module _ (z : Sizes) (s : State) (v : Event) (x : Thread) (l : ℕ) (there : l <
 
 -- ---- expressions
 
-pub refusal-back : (q : Refusal) → q ≡ refusalOf (ruleOf q)
-refusal-back Short = refl
-refusal-back OutOfTurn = refl
-refusal-back BadLength = refl
-refusal-back OffRange = refl
-refusal-back NoSuchName = refl
-refusal-back BadExpression = refl
-refusal-back NoHalt = refl
-refusal-back TooMany = refl
-refusal-back TooLong = refl
-refusal-back NoReading = refl
-refusal-back Stuck = refl
-refusal-back PastLimit = refl
-refusal-back OutOfSteps = refl
-refusal-back OutOfRoom = refl
-refusal-back LabelBroken = refl
-
 module _ (z : Sizes) (slots : ℕ) (b : List ℤ) (h : ℕ) (s : State) (v : Event) (x : Thread) where
   -- an assignment of a, and a branch on a
   module _ (r : ℕ) (a : P.Arith) where
     pub assign-faults : (q : Refusal) → fault (ruleOf q) ≡ evaluate a (regsOf (v .registers) (x .regs))
         → Acts z slots b b h (acted.Fault q) (effect (stateOf z s) (v .thread) (threadOf (v .registers) x) (v .from .0) (v .to .0) (P.assign r a))
     unfolding effect fromValue
-    assign-faults q e = rw (sym e) (ap acted.Fault (refusal-back q), refl)
+    assign-faults q e = rw (sym e) (ap acted.Fault (sym (refusal-of-rule q)), refl)
 
     pub assigns : (c : List ℤ) (k : ℕ) (i : Span) → getD (z .regs) (v .thread) 0 ≡ v .registers
         → value (intervalOf i) ≡ evaluate a (regsOf (v .registers) (x .regs))
@@ -153,7 +136,7 @@ module _ (z : Sizes) (slots : ℕ) (b : List ℤ) (h : ℕ) (s : State) (v : Eve
     pub branch-faults : (q : Refusal) → fault (ruleOf q) ≡ allParts a (regsOf (v .registers) (x .regs))
         → Acts z slots b b h (acted.Fault q) (effect (stateOf z s) (v .thread) (threadOf (v .registers) x) (v .from .0) (v .to .0) (P.branch to a))
     unfolding effect branches
-    branch-faults q e = rw (sym e) (ap acted.Fault (refusal-back q), refl)
+    branch-faults q e = rw (sym e) (ap acted.Fault (sym (refusal-of-rule q)), refl)
 
     pub branches-on : (c d : List ℤ) (k m on : ℕ) (taken passed : ℕ → Option Regs) → getD (z .regs) (v .thread) 0 ≡ v .registers → on ≡ suc (x .at)
         → value tt ≡ allParts a (regsOf (v .registers) (x .regs))

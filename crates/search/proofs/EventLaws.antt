@@ -1,8 +1,8 @@
 -- What the events from thread t on are, by the statement that the code fetched for it.
-use mathlib.Core.Path.{_≡_, refl, sym, ap, subst, _∙_}
+use mathlib.Core.Path.{_≡_, sym, ap, subst, _∙_}
 use mathlib.Core.Bool.{Bool, true, false}
-use mathlib.Core.List.{List, [], _∷_}
-use Prim.Native.Nat.{ℕ, zero, suc, _+_, _≤_, _<_, max}
+use mathlib.Core.List.{List, _∷_}
+use Prim.Native.Nat.{ℕ, suc, _+_, _≤_, _<_, max}
 use native.Mathlib.Omega.{arith}
 use borrow.Author.Tests.{le-leb, lt-leb}
 use lib.Dec.{leb}
@@ -10,12 +10,10 @@ use lib.IntN.{ℤ}
 use lib.ListN.{length, getD}
 use Rattle.rules.specs.Base.{if_then_else_}
 use Rattle.rules.specs.Constants.{half32, mostThreads}
-use Rattle.rules.specs.Program as P
-use Rattle.rules.specs.Program.{isHalt, Statement, Program, noThread}
+use Rattle.rules.specs.Program.{isHalt, Statement, Program}
 use Rattle.rules.specs.Format.{Bytes, Names}
 use Rattle.rules.specs.Search as S
 use Rattle.rules.specs.Search.{ThreadState, Live, unread, states, before, effect, events}
-use Rattle.reader.specs.Decoded.{actionOf}
 use Rattle.reader.specs.Facts.{threadIn, statementIn}
 use Rattle.reader.specs.Index.{noEntry}
 use Rattle.reader.specs.declared.threads.ThreadEntry.{ThreadEntry}
@@ -35,18 +33,8 @@ use Rattle.search.specs.declared.act.Event.{Event}
 use Rattle.search.specs.declared.act.Acted.{Acted}
 use Rattle.search.specs.declared.turn.Made.{Made}
 use Rattle.search.specs.declared.fetch.Fetched.{Fetched}
+use Rattle.search.proofs.fetch.Laws.{halts-same}
 use Rattle.search.proofs.TurnLaws.{live-step, events-halted, events-passed, events-before, over-makes}
-
-halts-is : (at e : ℕ) (a : P.Action) → halts (actionOf at e a) ≡ isHalt a
-unfolding actionOf isHalt
-halts-is at e P.halt = refl
-halts-is at e P.skip = refl
-halts-is at e (P.assign r x) = refl
-halts-is at e (P.branch k x) = refl
-halts-is at e (P.store r v) = refl
-halts-is at e (P.load r v) = refl
-halts-is at e (P.unlock l) = refl
-halts-is at e (P.lock l) = refl
 
 -- the state s of the code, which has four threads; thread t of the program; what was fetched for it
 module _ (g : Program) (s : State) (t : ℕ) (there : t < length (g .threads)) (few : length (g .threads) ≤ mostThreads) (four : length (s .threads) ≡ mostThreads)
@@ -81,7 +69,7 @@ module _ (g : Program) (s : State) (t : ℕ) (there : t < length (g .threads)) (
       else record { thread = t; here = x; statement = statementIn g t (x .at) } ∷ liveAfter g rules-state (suc t))) thread-here (live-step g rules-state t stands there in-state)
 
   is-halted : halted ≡ halts (f .action)
-  is-halted = sym (ap halts (fetched .action) ∙ halts-is _ _ (statementIn g t (threadAt s t .at) .action))
+  is-halted = sym (ap halts (fetched .action) ∙ halts-same _ _ (statementIn g t (threadAt s t .at) .action))
 
   module _ (latest bound : ℕ) where
     abbrev from : ℕ

@@ -15,6 +15,7 @@ use Rattle.rules.specs.Search as S
 use Rattle.rules.specs.Format.{Bytes, got, readSheet}
 use Rattle.rules.specs.Search.{Turn, refused, ended, follow, turn, Window, unseen, widen, fails, finds, afterTurn, searchStep, resume, search, start, searchFrom}
 use Rattle.refusal.specs.Shape.{refusalOf, ruleOf}
+use Rattle.refusal.proofs.Laws.{rule-of-refusal}
 use Rattle.refusal.specs.declared.Refusal.{Refusal}
 use Rattle.reader.specs.declared.Index.{Index}
 use Rattle.reader.specs.Index.{indexOf}
@@ -29,24 +30,6 @@ use Rattle.search.specs.Plan.{programOf, programIn, Planned, Ready}
 use Rattle.search.specs.Turn.{Turns}
 use Rattle.search.specs.declared.turn.Turned.{Turned}
 use Rattle.search.specs.declared.turn.Turned.the-variants.{Refused, Ended, Height}
-
--- a refusal of the rules, by way of the code
-pub rule-back : (r : R.Refusal) → ruleOf (refusalOf r) ≡ r
-rule-back R.short = refl
-rule-back R.outOfTurn = refl
-rule-back R.badLength = refl
-rule-back R.offRange = refl
-rule-back R.noSuchName = refl
-rule-back R.badExpression = refl
-rule-back R.noHalt = refl
-rule-back R.tooMany = refl
-rule-back R.tooLong = refl
-rule-back R.noReading = refl
-rule-back R.stuck = refl
-rule-back R.pastLimit = refl
-rule-back R.outOfSteps = refl
-rule-back R.outOfRoom = refl
-rule-back R.labelBroken = refl
 
 -- the state x on the stack xs, with so much of the budget left after this step
 module _ (left : ℕ) (g : Program) (slots : ℕ) (x : S.State) (xs : List S.State) (w : Window) (n : ℕ) where
@@ -86,7 +69,7 @@ module _ (left : ℕ) (g : Program) (z : Sizes) (slots : ℕ) (x : S.State) (b c
   turned-refused (refused r o) e q p k =
       let f : q ≡ refusalOf r = cc (k .0) in
       let i : p ≡ o = cc (k .0) in
-      step-refused left g slots x below w n r o e ∙ ap (λ (u : R.Refusal). fails u o (suc n)) (sym (rule-back r) ∙ ap ruleOf (sym f)) ∙ ap (λ (u : ℕ). fails (ruleOf q) u (suc n)) (sym i)
+      step-refused left g slots x below w n r o e ∙ ap (λ (u : R.Refusal). fails u o (suc n)) (sym (rule-of-refusal r) ∙ ap ruleOf (sym f)) ∙ ap (λ (u : ℕ). fails (ruleOf q) u (suc n)) (sym i)
   turned-refused (ended y v) e q p k = let i : _≡_ {A = ℕ} 0 1 = cc (k .0) in absurd (omega arith)
   turned-refused (follow new) e q p k = let i : _≡_ {A = ℕ} 0 1 = cc (k .1) in absurd (omega arith)
 

@@ -1,24 +1,24 @@
 -- Laws of a turn: what the events from one thread on come to, from those of the later threads.
-use mathlib.Core.Path.{_≡_, refl, sym, ap, ap₂, subst, _∙_}
+use mathlib.Core.Path.{_≡_, refl, sym, ap, subst, _∙_}
 use mathlib.Core.Bool.{Bool, true, false}
-use mathlib.Core.List.{List, [], _∷_, _++_, append-assoc}
-use Prim.Native.Nat.{ℕ, zero, suc, _+_, _≤_, _<_, min, max}
+use mathlib.Core.List.{List, _∷_}
+use Prim.Native.Nat.{ℕ, suc, _+_, _<_, max}
 use native.Mathlib.Omega.{arith}
 use lib.Dec.{leb}
 use lib.IntN.{ℤ}
-use lib.ListN.{length, getD, drop, length-append}
+use lib.ListN.{length, getD}
 use lib.Seq.{drop-cons}
 use Rattle.rules.specs.Base.{if_then_else_}
 use Rattle.rules.specs.Refusal as R
-use Rattle.rules.specs.Program.{isHalt, Statement, Thread, Program, noThread, noStatement}
+use Rattle.rules.specs.Program.{isHalt, Program, noThread}
 use Rattle.rules.specs.Search as S
 use Rattle.rules.specs.Search.{ThreadState, Live, liveFrom, statementAt, Next, unread, states, Turn, refused, ended, follow, before, effect, events}
 use Rattle.refusal.specs.Shape.{refusalOf}
 use Rattle.refusal.specs.declared.Refusal.{Refusal}
 use Rattle.reader.specs.Facts.{statementIn}
-use Rattle.state.specs.Shape.{Sizes, statesOf}
-use Rattle.state.specs.Cells.{stackOf}
+use Rattle.state.specs.Shape.{Sizes}
 use Rattle.search.specs.Push.{Pushed}
+use Rattle.search.proofs.PushLaws.{then-pushed}
 use Rattle.search.specs.Act.{Acts}
 use Rattle.search.specs.Turn.{liveAfter, Makes, heightOf, Turns, overOf, turnedOf}
 use Rattle.search.specs.declared.act.Acted.{Acted}
@@ -92,20 +92,10 @@ module _ (z : Sizes) (slots : ℕ) (b c d : List ℤ) (h : ℕ) where
       clash : {r : Refusal} {o : ℕ} → Height j ≡ Fault r o → _≡_ {A = ℕ} 0 1
       clash q = cc
   pushed-before m (ended x y) p xs j k e w u = absurd w
-  pushed-before m (follow ys) p xs j k e w u = (k, refl, join (w .0) (same (sym e ∙ w .1)) (w .2))
+  pushed-before m (follow ys) p xs j k e w u = (k, refl, then-pushed (w .2) (subst (λ (n : ℕ). Pushed z slots c d n k xs) (same (sym e ∙ w .1)) u))
     where
       same : {i : ℕ} → Height j ≡ Height i → j ≡ i
       same q = cc
-
-      join : (i : ℕ) → j ≡ i → Pushed z slots b c h i ys → Pushed z slots b d h k (xs ++ ys)
-      join i q v = record {
-        count = let a = v .count in let f = u .count in let n : length (xs ++ ys) ≡ length xs + length ys = length-append xs ys in omega arith;
-        stack = λ l.
-            let a = v .count in let f = u .count in
-            let low : i ≤ slots = omega arith in
-            u .stack l ∙ ap (λ (n : ℕ). xs ++ statesOf z (stackOf n c)) q ∙ ap (λ (w : List S.State). xs ++ w) (v .stack low) ∙ sym (append-assoc xs ys (statesOf z (stackOf h b)));
-        same-length = u .same-length ∙ v .same-length;
-      }
 
 -- the same by what the code makes of a thread's event
 pub over-makes : (z : Sizes) (slots : ℕ) (b c d : List ℤ) (h : ℕ) (m : Made) (t : Turn) (p : ℕ) (r : Acted) (n : Next) → Makes z slots b h c m t

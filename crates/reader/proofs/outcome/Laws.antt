@@ -9,51 +9,17 @@ use lib.ListN.{length}
 use Rattle.rules.specs.Refusal as R
 use Rattle.rules.specs.Format.{Got, bad, got, need, mapGot, Here, wrong, more, done}
 use Rattle.refusal.specs.declared.Refusal.{Refusal}
-use Rattle.refusal.specs.declared.Refusal.the-variants.{Short, OutOfTurn, BadLength, OffRange, NoSuchName, BadExpression, NoHalt, TooMany, TooLong, NoReading, Stuck, PastLimit, OutOfSteps, OutOfRoom, LabelBroken}
 use Rattle.refusal.specs.Shape.{refusalOf, ruleOf}
+use Rattle.refusal.proofs.Laws.{rule-of-refusal, refusal-of-rule}
 use Rattle.reader.specs.declared.outcome.End.{End}
 use Rattle.reader.specs.declared.outcome.End.the-variants.{At, Refused}
 use Rattle.reader.specs.declared.outcome.Next.{Next}
 use Rattle.reader.specs.declared.outcome.Next.the-variants.{Wrong, More, Done}
 use Rattle.reader.specs.declared.outcome.Count.{Count}
 use Rattle.reader.specs.declared.outcome.Count.the-variants.{Found, Failed}
-use Rattle.reader.specs.Outcome.{endOf, nextOf, countOf, failure}
+use Rattle.reader.specs.Outcome.{endOf, nextOf, countOf}
 
 -- ---- the code's refusals and the rules'
-
-pub rule-of-refusal : (r : R.Refusal) → ruleOf (refusalOf r) ≡ r
-rule-of-refusal R.short = refl
-rule-of-refusal R.outOfTurn = refl
-rule-of-refusal R.badLength = refl
-rule-of-refusal R.offRange = refl
-rule-of-refusal R.noSuchName = refl
-rule-of-refusal R.badExpression = refl
-rule-of-refusal R.noHalt = refl
-rule-of-refusal R.tooMany = refl
-rule-of-refusal R.tooLong = refl
-rule-of-refusal R.noReading = refl
-rule-of-refusal R.stuck = refl
-rule-of-refusal R.pastLimit = refl
-rule-of-refusal R.outOfSteps = refl
-rule-of-refusal R.outOfRoom = refl
-rule-of-refusal R.labelBroken = refl
-
-pub refusal-of-rule : (r : Refusal) → refusalOf (ruleOf r) ≡ r
-refusal-of-rule Short = refl
-refusal-of-rule OutOfTurn = refl
-refusal-of-rule BadLength = refl
-refusal-of-rule OffRange = refl
-refusal-of-rule NoSuchName = refl
-refusal-of-rule BadExpression = refl
-refusal-of-rule NoHalt = refl
-refusal-of-rule TooMany = refl
-refusal-of-rule TooLong = refl
-refusal-of-rule NoReading = refl
-refusal-of-rule Stuck = refl
-refusal-of-rule PastLimit = refl
-refusal-of-rule OutOfSteps = refl
-refusal-of-rule OutOfRoom = refl
-refusal-of-rule LabelBroken = refl
 
 pub same-rule : (k : R.Refusal) {r : Refusal} → refusalOf k ≡ r → k ≡ ruleOf r
 same-rule k h = sym (rule-of-refusal k) ∙ ap ruleOf h

@@ -27,7 +27,8 @@ use Rattle.reader.specs.declared.outcome.End.the-variants.{At, Refused}
 use Rattle.reader.specs.declared.outcome.Next.{Next}
 use Rattle.reader.specs.declared.outcome.Next.the-variants.{Wrong, More, Done}
 use Rattle.reader.specs.Outcome.{endOf, nextOf}
-use Rattle.reader.proofs.outcome.Laws.{got-of, bad-of, next-more, refusal-of-rule}
+use Rattle.reader.proofs.outcome.Laws.{got-of, bad-of, next-more}
+use Rattle.refusal.proofs.Laws.{refusal-of-rule}
 use Rattle.reader.proofs.fields.Laws.{sized-bad, sized-yes, sized-no}
 use Rattle.reader.proofs.Loops.{Turn}
 

@@ -20,7 +20,8 @@ use Rattle.reader.specs.declared.outcome.Next.the-variants.{Wrong, More,
 use Rattle.reader.specs.declared.outcome.Count.the-variants.{Found, Failed}
 use Rattle.reader.specs.Outcome.{endOf, nextOf}
 use Rattle.reader.specs.Index.{StatementsRead, placesOf}
-use Rattle.reader.proofs.outcome.Laws.{got-of, next-more, refusal-of-rule}
+use Rattle.reader.proofs.outcome.Laws.{got-of, next-more}
+use Rattle.refusal.proofs.Laws.{refusal-of-rule}
 use Rattle.reader.proofs.statements.Laws.{statement-room}
 use Rattle.reader.proofs.statements.Codes.{map-any}
 use Rattle.reader.proofs.Loops.{Turn, turn-wrong, turn-done, turn-full, turn-bad, turn-well, turn-items, table-more, same-sets}

@@ -22,7 +22,8 @@ use Rattle.reader.specs.declared.threads.ThreadEntry.{ThreadEntry}
 use Rattle.reader.specs.declared.threads.Threads.{Threads}
 use Rattle.reader.specs.Outcome.{nextOf}
 use Rattle.reader.specs.Index.{placesOf, layPlaces, entryWith, noEntry, entryOf, entriesOf, ThreadRead, ThreadsRead}
-use Rattle.reader.proofs.outcome.Laws.{refusal-of-rule, same-rule}
+use Rattle.reader.proofs.outcome.Laws.{same-rule}
+use Rattle.refusal.proofs.Laws.{refusal-of-rule}
 use Rattle.reader.proofs.Loops.{Turn, turn-done, turn-full, turn-ill, turn-well, turn-items, table-more}
 use Rattle.reader.proofs.threads.Laws.{Opened, opened}
 
