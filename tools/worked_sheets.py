@@ -5,10 +5,11 @@ section "Sheets to try" names, starred and unstarred.
     worked_sheets.py > FILE
     worked_sheets.py --join FILE FILE.. > FILE    one corpus of several, in order
 
-The five numbers are written here from the paper's text; no tool gave them. Where
-the paper states only some: places are counted from the fields' lengths, low and
-high are 0 but for refusals 0 and 15, and the steps of a sheet of one thread are
-the states before its statements on each branch, counted beside the sheet.
+The five numbers are written here from the paper's text and are not computed. Where
+the paper states only some, the others are counted by hand: places from the fields'
+lengths; low and high are 0 but for refusals 0 and 15; the steps of a sheet of one
+thread are the states taken on each branch, told beside the sheet. For G and H the
+paper gives a fact about an interval, and the sheet here is one that shows it.
 """
 
 import struct
