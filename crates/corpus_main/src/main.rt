@@ -1,0 +1,248 @@
+// Reads a corpus from standard input (its form: tools/corpus.rs), gives each sheet to the library with a lent buffer of the
+// stated length, and prints how many sheets it compared, how many of them had another answer than the five stated numbers, and how
+// many left a number of the lent part other than zero or changed the number right behind it.
+use label::Answer;
+use label::check;
+ghost use Prim.Native.Nat.{_<_};
+
+const MOST_SHEETS: usize = 65536;
+
+// What the buffer holds before each call.
+const FILLED: i32 = 7;
+
+// An entry but for its sheet's bytes.
+struct Front {
+    bytes: usize,
+    lent: usize,
+    refusal: u64,
+    place: u64,
+    steps: u64,
+    low: u64,
+    high: u64,
+}
+
+// What came of an entry; one that the corpus does not hold whole was not read.
+struct Verdict {
+    read: bool,
+    differs: bool,
+    unclean: bool,
+}
+
+struct Tally {
+    compared: u64,
+    differ: u64,
+    unclean: u64,
+}
+
+fn wide(x: u8) -> u64
+    ensures { λ r. ⌜ r < 256 ⌝ }
+{
+    x as u64
+}
+
+fn two(a: u8, b: u8) -> u64
+    ensures { λ r. ⌜ r < 65536 ⌝ }
+{
+    wide(a) * 256 + wide(b)
+}
+
+fn four(a: u8, b: u8, c: u8, d: u8) -> u64 {
+    two(a, b) * 65536 + two(c, d)
+}
+
+fn front_of(b: &[u8; 19]) -> Front {
+    Front {
+        bytes: two(b[0], b[1]) as usize,
+        lent: two(b[2], b[3]) as usize,
+        refusal: wide(b[4]),
+        place: two(b[5], b[6]),
+        steps: four(b[7], b[8], b[9], b[10]),
+        low: four(b[11], b[12], b[13], b[14]),
+        high: four(b[15], b[16], b[17], b[18]),
+    }
+}
+
+fn same(a: Answer, f: Front) -> bool {
+    if a.refusal as u64 != f.refusal {
+        return false;
+    }
+    if a.place as u64 != f.place {
+        return false;
+    }
+    if a.steps as u64 != f.steps {
+        return false;
+    }
+    if a.low as u64 != f.low {
+        return false;
+    }
+    a.high as u64 == f.high
+}
+
+fn fill(work: &mut [i32]) {
+    let mut i: usize = 0;
+    while i < work.len() {
+        work[i] = FILLED;
+        i += 1;
+    }
+}
+
+fn zeros(work: &[i32]) -> bool {
+    let mut i: usize = 0;
+    while i < work.len() {
+        if work[i] != 0 {
+            return false;
+        }
+        i += 1;
+    }
+    true
+}
+
+fn not_read() -> Verdict {
+    Verdict {
+        read: false,
+        differs: false,
+        unclean: false,
+    }
+}
+
+fn judged(differs: bool, unclean: bool) -> Verdict {
+    Verdict {
+        read: true,
+        differs: differs,
+        unclean: unclean,
+    }
+}
+
+fn compare(sheet: &[u8], f: Front, lent: &mut [i32]) -> Verdict {
+    fill(lent);
+    let a = check(sheet, lent);
+    let alike = same(a, f);
+    let clean = zeros(lent);
+    judged(!alike, !clean)
+}
+
+// Lends the front of the buffer.
+fn compare_front(sheet: &[u8], f: Front, work: &mut [i32]) -> Verdict {
+    let n = f.lent;
+    if work.len() < n {
+        return not_read();
+    }
+    compare(sheet, f, &mut work[..n])
+}
+
+fn mark(work: &mut [i32], n: usize) {
+    if n < work.len() {
+        work[n] = FILLED;
+    }
+}
+
+fn stays(work: &[i32], n: usize) -> bool {
+    if n < work.len() {
+        return work[n] == FILLED;
+    }
+    false
+}
+
+// The same, with a number right behind the lent part that is to stay.
+fn compare_marked(sheet: &[u8], f: Front, work: &mut [i32]) -> Verdict {
+    let n = f.lent;
+    mark(work, n);
+    let v = compare_front(sheet, f, work);
+    if stays(work, n) {
+        return v;
+    }
+    Verdict {
+        read: v.read,
+        differs: v.differs,
+        unclean: true,
+    }
+}
+
+fn compare_sheet(f: Front, bytes: &[u8], work: &mut [i32]) -> Verdict {
+    let n = f.bytes;
+    if bytes.len() < n {
+        return not_read();
+    }
+    compare_marked(&bytes[..n], f, work)
+}
+
+// Reads the next n bytes to the front of the buffer; false where there are fewer.
+fn read_front(buffer: &mut [u8], n: usize) -> bool {
+    if buffer.len() < n {
+        return false;
+    }
+    io::read_full(0, &mut buffer[..n]) == n
+}
+
+fn compare_next(bytes: &mut [u8], work: &mut [i32]) -> Verdict {
+    let mut front = [0u8; 19];
+    if io::read_full(0, &mut front) < 19 {
+        return not_read();
+    }
+    let f = front_of(&front);
+    if read_front(bytes, f.bytes) {
+        return compare_sheet(f, bytes, work);
+    }
+    not_read()
+}
+
+// One more where the fact holds.
+fn counted(n: u64, fact: bool) -> u64 {
+    if fact {
+        if n < 1000000 {
+            return n + 1;
+        }
+    }
+    n
+}
+
+fn added(t: Tally, v: Verdict) -> Tally {
+    Tally {
+        compared: counted(t.compared, v.read),
+        differ: counted(t.differ, v.differs),
+        unclean: counted(t.unclean, v.unclean),
+    }
+}
+
+// One sheet more, as long as the count is not reached.
+fn compare_due(count: u64, t: Tally, bytes: &mut [u8], work: &mut [i32]) -> Tally {
+    if t.compared < count {
+        let v = compare_next(bytes, work);
+        return added(t, v);
+    }
+    t
+}
+
+fn compare_all(count: u64, bytes: &mut [u8], work: &mut [i32]) -> Tally {
+    let mut t = Tally {
+        compared: 0,
+        differ: 0,
+        unclean: 0,
+    };
+    for _ in 0..MOST_SHEETS {
+        t = compare_due(count, t, bytes, work);
+    }
+    t
+}
+
+fn put(n: u64, text: &[u8]) {
+    io::print_decimal(1, n);
+    io::write_all(1, text);
+}
+
+fn main() {
+    let mut count = [0u8; 4];
+    if io::read_full(0, &mut count) < 4 {
+        return;
+    }
+    let mut bytes = io::large_buffer();
+    let mut work = [0i32; 65536];
+    let t = compare_all(
+        four(count[0], count[1], count[2], count[3]),
+        &mut bytes,
+        &mut work,
+    );
+    put(t.compared, b" sheets compared, ");
+    put(t.differ, b" differ, ");
+    put(t.unclean, b" buffers not zero\n");
+}
