@@ -29,6 +29,9 @@ const READ: i32 = 1;
 const READ_WRITE: i32 = 3;
 const PRIVATE_ANONYMOUS: i32 = 0x22;
 
+/// A longer sheet is refused unread.
+const MOST_BYTES: usize = 16_384;
+
 /// What stands in the pages beside a slice.
 const CANARY: u8 = 0xA5;
 
@@ -109,7 +112,11 @@ fn main() {
     let mut sheets: Vec<Option<Guarded>> = Vec::new();
     let mut works: Vec<Option<Guarded>> = Vec::new();
     while done < count {
-        let entry = generator.entry();
+        let mut entry = generator.entry();
+        if random.below(1000) == 0 {
+            // about as long as a sheet may be, or a little longer
+            entry.sheet.resize(MOST_BYTES - 4 + random.below(9), 0);
+        }
         let Some(expected) = answer(&entry.sheet, entry.length) else {
             passed_over += 1;
             continue;
