@@ -1019,16 +1019,16 @@ fn step(program: &Program, state: &RunState, thread: usize, tick: u64) -> Step {
 
 /// What became of the runs followed.
 #[derive(Clone, PartialEq, Eq, Debug)]
-struct Figures {
-    finished: u64,
-    no_result: u64,
+pub struct Figures {
+    pub finished: u64,
+    pub no_result: u64,
     /// every live thread waits for a lock another owns
-    stuck: u64,
+    pub stuck: u64,
     /// an event stands past the time limit; the run was followed no further
-    past_limit: u64,
-    low: u64,
-    high: u64,
-    longest: u64,
+    pub past_limit: u64,
+    pub low: u64,
+    pub high: u64,
+    pub longest: u64,
 }
 
 impl Figures {
@@ -1138,6 +1138,11 @@ fn random_runs(program: &Program, seed: u64, count: u64) -> Figures {
         }
     }
     figures
+}
+
+/// Random timed runs of a sheet, or None if it does not read.
+pub fn runs(sheet: &[u8], seed: u64, count: u64) -> Option<Figures> {
+    Some(random_runs(&read_program(sheet).ok()?, seed, count))
 }
 
 /// Every run from every starting state; false if the cap on events, or the same

@@ -1,0 +1,40 @@
+/* The library's one call. `rt staticlib label` writes target/staticlib/liblabel.a (x86-64). */
+#ifndef ZUMBEIRY_H
+#define ZUMBEIRY_H
+
+#include <stddef.h>
+#include <stdint.h>
+
+#ifdef __cplusplus
+extern "C" {
+#endif
+
+/*
+ * Says whether the label may stay on a sheet.
+ *
+ * Five numbers go to answer[0] to answer[4], in this order:
+ *
+ *     refusal   0: the label may stay; 1 to 15: why not
+ *     place     the offset in the sheet that refusals 1 to 10 name, else 0
+ *     steps     the steps that the search took, 0 if the sheet does not read
+ *     low       the least finishing tick, for refusals 0 and 15, else 0
+ *     high      the greatest finishing tick, likewise
+ *
+ * An array of fewer than five numbers is left as it is, and the numbers after the fifth too. The refusal is returned.
+ *
+ * The work buffer may have any length and any contents; a state takes 100 numbers of it, so that 12000 hold 120 states. It is
+ * all zeros afterwards, in every case. The sheet is only read. Nothing is allocated or kept between calls: threads may call at
+ * the same time, each with its own buffer and answer. A call needs stack: docs/PERFORMANCE.md has the size.
+ *
+ * The caller sees to it that each pointer has that many readable (work and answer: writable) numbers, aligned for their type
+ * and not null even where the length is 0, and that work and answer overlap neither each other nor the sheet.
+ */
+uint32_t zumbeiry_check(const uint8_t *sheet, size_t sheet_length,
+                        int32_t *work, size_t work_length,
+                        uint64_t *answer, size_t answer_length);
+
+#ifdef __cplusplus
+}
+#endif
+
+#endif
