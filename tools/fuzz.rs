@@ -1,5 +1,5 @@
-//! Fresh random sheets through the library against the oracle, each slice between pages that may not be touched, and random timed
-//! runs of the accepted sheets against the window that the library gives.
+//! Fresh random sheets through the library against the oracle, each slice between pages that may not be touched, and timed runs of
+//! the accepted sheets, some at random and all of them where they are few, against the window that the library gives.
 //!
 //!     fuzz SEED COUNT [RUNS]     COUNT sheets, RUNS timed runs of each accepted one (20)
 //!
@@ -13,6 +13,7 @@ mod oracle;
 mod zumbeiry;
 
 use generator::{answer, Entry, Generator, Random};
+use oracle::Figures;
 use std::ffi::c_void;
 use std::time::Instant;
 use std::{env, process, ptr, slice};
@@ -31,6 +32,9 @@ const PRIVATE_ANONYMOUS: i32 = 0x22;
 
 /// A longer sheet is refused unread.
 const MOST_BYTES: usize = 16_384;
+
+/// All runs of a sheet are followed as far as this many events.
+const MOST_EVENTS: u64 = 500;
 
 /// What stands in the pages beside a slice.
 const CANARY: u8 = 0xA5;
@@ -88,6 +92,12 @@ fn differ(what: &str, entry: &Entry) -> ! {
     process::exit(1)
 }
 
+/// Whether every run had a result at each event, was never stuck or past the limit, and finished in the window if it finished.
+fn in_window(figures: &Figures, low: u64, high: u64) -> bool {
+    let faults = figures.no_result + figures.stuck + figures.past_limit;
+    faults == 0 && (figures.finished == 0 || low <= figures.low && figures.high <= high)
+}
+
 fn pages(bytes: usize) -> usize {
     bytes.div_ceil(PAGE).max(1)
 }
@@ -107,6 +117,7 @@ fn main() {
     let mut random = Random(!seed);
     let mut of = [0u64; 16];
     let (mut done, mut passed_over, mut short, mut steps, mut runs, mut longest) = (0u64, 0u64, 0u64, 0u64, 0u64, 0u64);
+    let (mut followed_whole, mut of_these) = (0u64, 0u64);
     let mut answers = Guarded::new(1);
     // by the number of pages, so that a small slice has few canaries to look through
     let mut sheets: Vec<Option<Guarded>> = Vec::new();
@@ -175,17 +186,29 @@ fn main() {
             let Some(figures) = oracle::runs(&entry.sheet, random.next(), runs_each) else {
                 differ("an accepted sheet does not read", &entry)
             };
-            if figures.finished != runs_each || figures.low < expected[3] || figures.high > expected[4] {
+            if figures.finished != runs_each || !in_window(&figures, expected[3], expected[4]) {
                 differ("a run does not keep the window", &entry);
             }
             runs += runs_each;
             longest = longest.max(figures.longest);
+
+            let Some((figures, all)) = oracle::every_run(&entry.sheet, MOST_EVENTS) else {
+                differ("an accepted sheet does not read", &entry)
+            };
+            if all && figures.finished == 0 || !in_window(&figures, expected[3], expected[4]) {
+                differ("one of all runs does not keep the window", &entry);
+            }
+            if all {
+                followed_whole += 1;
+                of_these += figures.finished;
+            }
         }
     }
     println!("{done} sheets from seed {seed}, {steps} steps: the same five numbers, the work buffer all zeros, nothing beside a slice touched");
     println!("{short} with an answer of fewer than five numbers; {passed_over} more sheets passed over, of too many steps");
     println!("by refusal, 0 to 15: {of:?}");
     println!("{runs} runs of accepted sheets, the longest of {longest} events: each with a result, finished inside the window");
+    println!("{followed_whole} accepted sheets with all of their runs, {of_these} runs: likewise");
     println!("{:.0} seconds", start.elapsed().as_secs_f64());
 }
 

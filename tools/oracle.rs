@@ -1145,6 +1145,11 @@ pub fn runs(sheet: &[u8], seed: u64, count: u64) -> Option<Figures> {
     Some(random_runs(&read_program(sheet).ok()?, seed, count))
 }
 
+/// Every timed run of a sheet, as far as the cap (all_runs), or None if it does not read.
+pub fn every_run(sheet: &[u8], cap: u64) -> Option<(Figures, bool)> {
+    Some(all_runs(&read_program(sheet).ok()?, cap))
+}
+
 /// Every run from every starting state; false if the cap on events, or the same
 /// cap on starting states, was met.
 fn all_runs(program: &Program, cap: u64) -> (Figures, bool) {
