@@ -38,7 +38,7 @@ fn register_at(s: &[u8], p: usize, end: usize) -> Side
     Side::Register(r)
 }
 
-pub fn side_at(s: &[u8], at: usize, end: usize) -> Side
+pub(crate) fn side_at(s: &[u8], at: usize, end: usize) -> Side
     requires { ⌜ end ≤ length (now s) ⌝ }
     ensures { λ r. ⌜ r ≡ sideAt (now (s .entry)) end at ⌝ }
 {
@@ -226,7 +226,7 @@ fn compare_spans(
     }
 }
 
-pub fn compare_readings(
+pub(crate) fn compare_readings(
     wanted: bool,
     o: Relation,
     l: Side,

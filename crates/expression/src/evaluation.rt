@@ -50,7 +50,7 @@ fn evaluate_register(s: &[u8], p: usize, end: usize, n: usize, regs: [Span; 8]) 
     Evaluated::Read(x, p + 1)
 }
 
-pub fn evaluate(
+pub(crate) fn evaluate(
     s: &[u8],
     at: usize,
     end: usize,

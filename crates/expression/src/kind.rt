@@ -28,7 +28,7 @@ fn arith_kind(code: u8) -> ArithKind
 }
 
 // Unknown, too, where the body has ended.
-pub fn arith_at(s: &[u8], at: usize, end: usize) -> ArithKind
+pub(crate) fn arith_at(s: &[u8], at: usize, end: usize) -> ArithKind
     requires { ⌜ end ≤ length (now s) ⌝ }
     ensures { λ r. ⌜ arithKindOf r ≡ arithAt (now (s .entry)) end at ⌝ }
 {
@@ -67,7 +67,7 @@ fn condition_kind(code: u8) -> ConditionKind
     }
 }
 
-pub fn condition_at(s: &[u8], at: usize, end: usize) -> ConditionKind
+pub(crate) fn condition_at(s: &[u8], at: usize, end: usize) -> ConditionKind
     requires { ⌜ end ≤ length (now s) ⌝ }
     ensures { λ r. ⌜ conditionKindOf r ≡ conditionAt (now (s .entry)) end at ⌝ }
 {

@@ -11,16 +11,12 @@ pub mod whole; // what an assignment and a branch ask
 
 pub use comparison::Narrowed;
 pub use evaluation::Evaluated;
-pub use evaluation::evaluate;
 pub use narrowing::NarrowedAt;
-pub use narrowing::narrow_no;
-pub use narrowing::narrow_yes;
 pub use number::int32_at;
 pub use number::num16_at;
 pub use number::num32_at;
 pub use parts::Check;
 pub use parts::Checked;
-pub use parts::all_parts;
 pub use reading::Parsed;
 pub use reading::read_arith;
 pub use reading::read_condition;

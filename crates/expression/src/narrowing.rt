@@ -136,7 +136,7 @@ fn join_both(a: NarrowedAt, b: NarrowedAt, joined: [Span; 8]) -> NarrowedAt
 
 // The right side of an "and" is narrowed on the registers that the left leaves. Where the left leaves none, it is walked
 // for its end alone.
-pub fn narrow_yes(
+pub(crate) fn narrow_yes(
     s: &[u8],
     at: usize,
     end: usize,
@@ -176,7 +176,7 @@ pub fn narrow_yes(
 }
 
 // Both sides of an "and" are narrowed on the registers as they are, and the results joined.
-pub fn narrow_no(
+pub(crate) fn narrow_no(
     s: &[u8],
     at: usize,
     end: usize,

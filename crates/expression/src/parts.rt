@@ -99,7 +99,7 @@ fn check_both(a: Checked, b: Checked) -> Checked
     unchecked()
 }
 
-pub fn all_parts(
+pub(crate) fn all_parts(
     s: &[u8],
     at: usize,
     end: usize,

@@ -47,14 +47,14 @@ pub fn has_head(s: &[u8], at: usize) -> bool
     at <= s.len() - 3
 }
 
-pub fn length_at(s: &[u8], at: usize) -> usize
+pub(crate) fn length_at(s: &[u8], at: usize) -> usize
     requires { ⌜ at + 3 ≤ length (now s) ⌝ }
     ensures { λ r. ⌜ (r ≡ num16 (now (s .entry)) (at + 1)) × (r < 65536) ⌝ }
 {
     num16_at(s, at + 1) as usize
 }
 
-pub fn has_body(s: &[u8], at: usize) -> bool
+pub(crate) fn has_body(s: &[u8], at: usize) -> bool
     requires { ⌜ at + 3 ≤ length (now s) ⌝ }
     ensures { λ r. ⌜ r ≡ hasBody (now (s .entry)) at ⌝ }
 {
@@ -76,7 +76,7 @@ pub fn due_at(s: &[u8], at: usize, tag: u8) -> End
 }
 
 // A field whose body is to be n bytes long: the body first, then its length.
-pub fn fixed_end(s: &[u8], at: usize, n: usize) -> End
+pub(crate) fn fixed_end(s: &[u8], at: usize, n: usize) -> End
     requires { ⌜ (at + 3 ≤ length (now s)) × (n < 65536) ⌝ }
     ensures { λ r. ⌜ r ≡ endOf (sized (now (s .entry)) at n true n) ⌝ }
 {
@@ -136,7 +136,7 @@ pub fn header_end(s: &[u8]) -> End
 
 // ---- tags 3 and 4: one byte, a number of names
 
-pub fn names_end(s: &[u8], at: usize) -> End
+fn names_end(s: &[u8], at: usize) -> End
     requires { ⌜ at + 3 ≤ length (now s) ⌝ }
     ensures { λ r. ⌜ r ≡ endOf (sized (now (s .entry)) at 1 (leb (byte (now (s .entry)) (at + 3)) mostRegisters) (byte (now (s .entry)) (at + 3))) ⌝ }
 {

@@ -16,7 +16,7 @@ ghost use Rattle.reader.specs.Outcome.{endOf, nextOf, countOf};
 
 const MOST_VARIABLES: usize = 8;
 
-pub fn range_end(s: &[u8], at: usize) -> End
+fn range_end(s: &[u8], at: usize) -> End
     requires { ⌜ at + 3 ≤ length (now s) ⌝ }
     ensures { λ r. ⌜ r ≡ endOf (readRange (now (s .entry)) at) ⌝ }
 {

@@ -176,7 +176,7 @@ fn contents_end(s: &[u8], names: Names, at: usize) -> End
 }
 
 // A statement's field, whose header lies in the sheet: the body first, then its contents.
-pub fn statement_end(s: &[u8], names: Names, at: usize) -> End
+fn statement_end(s: &[u8], names: Names, at: usize) -> End
     requires { ⌜ at + 3 ≤ length (now s) ⌝ }
     ensures { λ r. ⌜ r ≡ endOf (readStatement (namesOf names) (now (s .entry)) at) ⌝ }
 {
@@ -229,7 +229,13 @@ pub fn statement_here(s: &[u8], n: usize, at: usize) -> Next
 }
 
 // A thread's statements: their places go into the table from base on.
-pub fn read_statements(s: &[u8], names: Names, at: usize, places: &mut [u16], base: usize) -> Count
+pub(crate) fn read_statements(
+    s: &[u8],
+    names: Names,
+    at: usize,
+    places: &mut [u16],
+    base: usize,
+) -> Count
     requires { ⌜ (base + mostStatements ≤ length (now places)) × (length (now s) ≤ longestSheet) ⌝ }
     ensures { λ r. ⌜ StatementsRead (readStatements (namesOf names) (now (s .entry)) at) base (now (places .entry)) (now (places .exit)) r ⌝ }
 {
@@ -296,7 +302,7 @@ fn targets_end(s: &[u8], places: &[u16], base: usize, n: usize, q: usize) -> End
 }
 
 // The last of n statements is halt, then their targets; q is the place behind them.
-pub fn close_end(s: &[u8], places: &[u16], base: usize, n: usize, q: usize) -> End
+pub(crate) fn close_end(s: &[u8], places: &[u16], base: usize, n: usize, q: usize) -> End
     requires { ⌜ base + n ≤ length (now places) ⌝ }
     ensures { λ r. ⌜ r ≡ lastAt (now (s .entry)) (slice base (base + n) (now (places .entry))) (targetsAt (now (s .entry)) n (slice base (base + n) (now (places .entry))) (End.At q)) ⌝ }
 {

@@ -93,7 +93,13 @@ fn entry_at(s: &[u8], p: usize, n: usize) -> ThreadEntry
 }
 
 // All threads; the places of thread t's statements go into the table from t * 64 on.
-pub fn read_threads(s: &[u8], vars: usize, locks: usize, at: usize, places: &mut [u16]) -> Threads
+pub(crate) fn read_threads(
+    s: &[u8],
+    vars: usize,
+    locks: usize,
+    at: usize,
+    places: &mut [u16],
+) -> Threads
     requires { ⌜ (mostThreads * mostStatements ≤ length (now places)) × (length (now s) ≤ longestSheet) ⌝ }
     ensures { λ r. ⌜ ThreadsRead (readThreads vars locks (now (s .entry)) at) (now (places .entry)) (now (places .exit)) r ⌝ }
 {

@@ -264,7 +264,7 @@ fn owner(t: usize) -> u8
 }
 
 // A lock is free, or the thread owns it already.
-pub fn may_take(t: usize, o: u8) -> bool
+pub(crate) fn may_take(t: usize, o: u8) -> bool
     requires { ⌜ t < mostThreads ⌝ }
     ensures { λ r. ⌜ r ≡ mayTake t (ownerOf o) ⌝ }
 {
@@ -336,7 +336,7 @@ fn lock(
     push(work, height, slots, moved(s, v, at, regs))
 }
 
-pub fn act(
+pub(crate) fn act(
     sheet: &[u8],
     s: State,
     v: Event,

@@ -49,7 +49,7 @@ fn fetch_at(sheet: &[u8], place: usize) -> Fetched
 }
 
 // Statement `at` of thread t.
-pub fn fetch(sheet: &[u8], places: &[u16; 256], plan: Plan, t: usize, at: u8) -> Fetched
+pub(crate) fn fetch(sheet: &[u8], places: &[u16; 256], plan: Plan, t: usize, at: u8) -> Fetched
     requires { ⌜ Ready (now sheet) plan (now places) × (t < length (programIn (now sheet) .threads)) ⌝ }
     ensures { λ r. ⌜ Fetches (now (sheet .entry)) (namesOf (programIn (now (sheet .entry))) t) at (statementIn (programIn (now (sheet .entry))) t at) r ⌝ }
 {

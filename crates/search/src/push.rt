@@ -8,7 +8,7 @@ ghost use Rattle.state.specs.Cells.{AllTimed};
 ghost use Rattle.state.specs.Shape.{Sizes, stateOf};
 ghost use Rattle.search.specs.Push.{Room, Pushed};
 
-pub fn push(work: &mut [i32], height: usize, slots: usize, s: State) -> usize
+pub(crate) fn push(work: &mut [i32], height: usize, slots: usize, s: State) -> usize
     requires { ⌜ Room slots (now work) × ((height ≤ slots + 1) × AllTimed s) ⌝ }
     ensures { λ r. ⌜ ((z : Sizes) → Pushed z slots (now (work .entry)) (now (work .exit)) height r (stateOf z s ∷ [])) ⌝ }
 {

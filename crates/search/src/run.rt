@@ -56,7 +56,7 @@ pub enum Outcome {
     Finds(u32, Window),
 }
 
-pub fn search(
+fn search(
     sheet: &[u8],
     places: &[u16; 256],
     plan: Plan,

@@ -104,7 +104,7 @@ fn with_thread(a: Survey, t: usize, x: Thread, f: Fetched, owners: [u8; 8]) -> S
     with_live(b, due, w)
 }
 
-pub fn survey_threads(sheet: &[u8], places: &[u16; 256], plan: Plan, s: State) -> Survey
+pub(crate) fn survey_threads(sheet: &[u8], places: &[u16; 256], plan: Plan, s: State) -> Survey
     requires { ⌜ Ready (now sheet) plan (now places) × AllTimed s ⌝ }
     ensures { λ r. ⌜ Surveys (stateOf (sizesOf (programIn (now (sheet .entry)))) s .owners) (liveAfter (programIn (now (sheet .entry))) (stateOf (sizesOf (programIn (now (sheet .entry)))) s) 0)
         (stateOf (sizesOf (programIn (now (sheet .entry)))) s .threads) r ⌝ }

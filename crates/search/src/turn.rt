@@ -160,7 +160,7 @@ fn as_turned(m: Made) -> Turned
     }
 }
 
-pub fn turn(
+pub(crate) fn turn(
     sheet: &[u8],
     places: &[u16; 256],
     plan: Plan,

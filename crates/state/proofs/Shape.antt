@@ -1,4 +1,4 @@
--- The rules' state of a state: what each setter makes of it, and each getter reads from it.
+-- The rules' state of a state: what replacing a part makes of it, and what each part is in it.
 use mathlib.Core.Path.{_≡_, refl, ap, _∙_}
 use mathlib.Core.List.{List, [], _∷_, _++_, map}
 use mathlib.Core.Option.{none}

@@ -1,4 +1,4 @@
--- Clocks that a cell holds: what each setter keeps.
+-- Clocks that a cell holds: what replacing a part keeps.
 use mathlib.Core.List.{List, [], _∷_}
 use Prim.Native.Nat.{ℕ, zero, suc, _<_}
 use native.Mathlib.Omega.{arith}
