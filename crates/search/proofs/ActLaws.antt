@@ -32,18 +32,18 @@ use Rattle.reader.specs.declared.decoding.Action.{Action}
 use Rattle.reader.specs.declared.decoding.Action.the-variants.{Halt, Skip, Assign, Branch, Store, Load, Unlock, Lock}
 use Rattle.state.specs.declared.Thread.{Thread}
 use Rattle.state.specs.declared.State.{State}
-use Rattle.state.specs.Access.{ownerAt, withThread, withVar, withOwner}
-use Rattle.state.specs.Cells.{AllTimed}
+use Rattle.state.specs.declared.moves.Move.{Move}
+use Rattle.state.specs.Access.{threadAt, ownerAt, withVar, withOwner}
+use Rattle.state.specs.Move.{MoveFits, movedTo}
 use Rattle.state.specs.Shape.{Sizes, ownerOf, threadOf, sizesOf, stateOf}
 use Rattle.state.proofs.Shape.{state-owner, moved-state, moved-var-state, moved-owner-state, sizes-regs}
-use Rattle.state.proofs.Timed.{with-thread-timed}
 use Rattle.search.specs.declared.fetch.Fetched.{Fetched}
 use Rattle.search.specs.declared.act.Event.{Event}
 use Rattle.search.specs.declared.act.Acted.the-variants as acted
 use Rattle.search.specs.Plan.{programIn}
 use Rattle.search.specs.Fetch.{namesOf, Fetches}
 use Rattle.search.specs.Push.{Pushed}
-use Rattle.search.specs.Act.{Asks, OfProgram, Acts, standingAt, movedBy}
+use Rattle.search.specs.Act.{Ticks, OfProgram, Acts, moveTo, movedBy, movedWith}
 use Rattle.search.proofs.PushLaws.{then-pushed}
 
 -- ---- owners
@@ -68,28 +68,32 @@ kept-owner t (suc u) h = rw (ne-eqb u t (λ e. h (ap suc e)))
 
 -- ---- the state that an event makes
 
+module _ (s : State) (v : Event) (at : ℕ) (regs : List Span) (z : Sizes) where
+  pub moved-is : stateOf z (movedTo s (moveTo v at) regs) ≡ movedBy z s v at (regsOf (getD (z .regs) (v .thread) 0) regs)
+  moved-is = moved-state z s (v .thread) at (record { low = v .from; high = v .to }) regs
+
+module _ (s : State) (v : Event) (at : ℕ) (z : Sizes) where
+  pub moved-var-is : (k : ℕ) (i : Span) → stateOf z (withVar (movedTo s (moveTo v at) (threadAt s (v .thread) .regs)) k i)
+      ≡ movedWith z s v at (set (stateOf z s .vars) k (intervalOf i)) (stateOf z s .owners)
+  moved-var-is k i = moved-var-state z s (v .thread) at (record { low = v .from; high = v .to }) (threadAt s (v .thread) .regs) k i
+
+  pub moved-owner-is : (l o : ℕ) → stateOf z (withOwner (movedTo s (moveTo v at) (threadAt s (v .thread) .regs)) l o)
+      ≡ movedWith z s v at (stateOf z s .vars) (set (stateOf z s .owners) l (ownerOf o))
+  moved-owner-is l o = moved-owner-state z s (v .thread) at (record { low = v .from; high = v .to }) (threadAt s (v .thread) .regs) l o
+
 pub pushed-as : {z : Sizes} {slots : ℕ} {b c : List ℤ} {h k : ℕ} {x y : S.State} → x ≡ y → Pushed z slots b c h k (x ∷ []) → Pushed z slots b c h k (y ∷ [])
 pushed-as {z} {slots} {b} {c} {h} {k} e p = subst (λ (w : S.State). Pushed z slots b c h k (w ∷ [])) e p
 
-module _ (s : State) (v : Event) (at : ℕ) (regs : List Span) (m : State) (em : m ≡ withThread s (v .thread) (standingAt v at regs)) where
-  pub moved-timed : {b : List ℤ} {h slots : ℕ} → Asks s v b h slots → AllTimed m
-  moved-timed a = rw em (with-thread-timed s (v .thread) (standingAt v at regs) (a .timed) (record { low = a .ticks .from-small; high = a .ticks .to-small }))
-
-  module _ (z : Sizes) where
-    pub moved-is : stateOf z m ≡ movedBy z s v at (regsOf (getD (z .regs) (v .thread) 0) regs)
-    moved-is = ap (stateOf z) em ∙ moved-state z s (v .thread) (standingAt v at regs) at (v .from) (v .to)
-
-    pub moved-var-is : (k : ℕ) (i : Span) → stateOf z (withVar m k i)
-        ≡ S.moved (stateOf z s) (v .thread) at (v .from .0) (v .to .0) (regsOf (getD (z .regs) (v .thread) 0) regs) (set (stateOf z s .vars) k (intervalOf i)) (stateOf z s .owners)
-    moved-var-is k i = ap (λ (q : State). stateOf z (withVar q k i)) em ∙ moved-var-state z s (v .thread) (standingAt v at regs) at (v .from) (v .to) k i
-
-    pub moved-owner-is : (l o : ℕ) → stateOf z (withOwner m l o)
-        ≡ S.moved (stateOf z s) (v .thread) at (v .from .0) (v .to .0) (regsOf (getD (z .regs) (v .thread) 0) regs) (stateOf z s .vars) (set (stateOf z s .owners) l (ownerOf o))
-    moved-owner-is l o = ap (λ (q : State). stateOf z (withOwner q l o)) em ∙ moved-owner-state z s (v .thread) (standingAt v at regs) at (v .from) (v .to) l o
+-- what the code asks of a move
+pub move-fits : (v : Event) (m : Move) (at : ℕ) → Ticks v → m ≡ moveTo v at → MoveFits m
+move-fits v m at t e = subst MoveFits (sym e) (record { thread = t .thread; low = t .from-small; high = t .to-small })
 
 -- ---- locks
 
-module _ (z : Sizes) (s : State) (v : Event) (x : Thread) (l : ℕ) (there : l < z .locks) where
+module _ (z : Sizes) (s : State) (v : Event) (l : ℕ) (there : l < z .locks) where
+  abbrev x : Thread
+  x = threadAt s (v .thread)
+
   -- the rules' state after an event at an unlock and at a lock, by the owner that was
   abbrev pub unlockedFrom : Option ℕ → S.State
   unlockedFrom o = S.moved (stateOf z s) (v .thread) (suc (x .at)) (v .from .0) (v .to .0) (regsOf (getD (z .regs) (v .thread) 0) (x .regs)) (stateOf z s .vars) (set (stateOf z s .owners) l (afterUnlock (v .thread) o))
@@ -99,21 +103,21 @@ module _ (z : Sizes) (s : State) (v : Event) (x : Thread) (l : ℕ) (there : l <
       S.moved (stateOf z s) (v .thread) (if mayTake (v .thread) o then suc (x .at) else x .at) (v .from .0) (v .to .0)
       (regsOf (getD (z .regs) (v .thread) 0) (x .regs)) (stateOf z s .vars) (set (stateOf z s .owners) l (afterLock (v .thread) o))
 
-  module _ (m : State) (at : ℕ) (em : m ≡ withThread s (v .thread) (standingAt v at (x .regs))) where
-    pub unlocks : (o : ℕ) → at ≡ suc (x .at) → ownerOf o ≡ afterUnlock (v .thread) (ownerOf (ownerAt s l))
-        → stateOf z (withOwner m l o) ≡ unlockedFrom (getD (stateOf z s .owners) l none)
-    unlocks o ea eo = moved-owner-is s v at (x .regs) m em z l o ∙ rw (state-owner z s l there, ea, eo)
+  pub unlocks : (at o : ℕ) → at ≡ suc (x .at) → ownerOf o ≡ afterUnlock (v .thread) (ownerOf (ownerAt s l))
+      → movedWith z s v at (stateOf z s .vars) (set (stateOf z s .owners) l (ownerOf o)) ≡ unlockedFrom (getD (stateOf z s .owners) l none)
+  unlocks at o ea eo = rw (state-owner z s l there, ea, eo)
 
-    pub locks : (o : ℕ) → at ≡ suc (x .at) → o ≡ suc (v .thread) → mayTake (v .thread) (ownerOf (ownerAt s l)) ≡ true
-        → stateOf z (withOwner m l o) ≡ lockedFrom (getD (stateOf z s .owners) l none)
-    unfolding afterLock
-    locks o ea eo may = moved-owner-is s v at (x .regs) m em z l o ∙ rw (state-owner z s l there, may, ea, eo)
+  pub locks : (at o : ℕ) → at ≡ suc (x .at) → o ≡ suc (v .thread) → mayTake (v .thread) (ownerOf (ownerAt s l)) ≡ true
+      → movedWith z s v at (stateOf z s .vars) (set (stateOf z s .owners) l (ownerOf o)) ≡ lockedFrom (getD (stateOf z s .owners) l none)
+  unfolding afterLock
+  locks at o ea eo may = rw (state-owner z s l there, may, ea, eo)
 
-    pub waits-on : at ≡ x .at → mayTake (v .thread) (ownerOf (ownerAt s l)) ≡ false → stateOf z m ≡ lockedFrom (getD (stateOf z s .owners) l none)
-    unfolding afterLock
-    waits-on ea may =
-        let e : mayTake (v .thread) (getD (stateOf z s .owners) l none) ≡ false = ap (mayTake (v .thread)) (state-owner z s l there) ∙ may in
-        moved-is s v at (x .regs) m em z ∙ rw (e, ea, set-getD (stateOf z s .owners) l none)
+  pub waits-on : (at : ℕ) → at ≡ x .at → mayTake (v .thread) (ownerOf (ownerAt s l)) ≡ false
+      → movedBy z s v at (regsOf (getD (z .regs) (v .thread) 0) (x .regs)) ≡ lockedFrom (getD (stateOf z s .owners) l none)
+  unfolding afterLock
+  waits-on at ea may =
+      let e : mayTake (v .thread) (getD (stateOf z s .owners) l none) ≡ false = ap (mayTake (v .thread)) (state-owner z s l there) ∙ may in
+      rw (e, ea, set-getD (stateOf z s .owners) l none)
 
 -- ---- expressions
 

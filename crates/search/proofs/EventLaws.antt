@@ -18,7 +18,6 @@ use Rattle.reader.specs.Facts.{threadIn, statementIn}
 use Rattle.reader.specs.Index.{noEntry}
 use Rattle.reader.specs.declared.threads.ThreadEntry.{ThreadEntry}
 use Rattle.reader.proofs.Facts.{thread-in}
-use Rattle.state.specs.Cells.{AllTimed}
 use Rattle.state.specs.Access.{threadAt}
 use Rattle.state.specs.Shape.{Sizes, threadOf, sizesOf, stateOf}
 use Rattle.state.specs.declared.State.{State}
@@ -118,13 +117,12 @@ module _ (bs : Bytes) (g : Program) (p : Plan) (places : List ℕ) (r : Planned 
     locks-few = r .facts .locks-few;
   }
 
-  pub act-asks : AllTimed s → from ≤ to → to < half32 → (b : List ℤ) (slots height : ℕ) → Room slots b → height ≤ slots + 1 → (v : Event) → v ≡ its-event
-      → Asks s v b height slots × (OfProgram g v × ((x : Statement) × Fetches bs (namesOf g (v .thread)) (threadAt s (v .thread) .at) x f))
-  act-asks timed l u b slots height room high v q =
-      subst (λ (w : Event). Asks s w b height slots × (OfProgram g w × ((x : Statement) × Fetches bs (namesOf g (w .thread)) (threadAt s (w .thread) .at) x f))) (sym q) (
+  pub act-asks : from ≤ to → to < half32 → (b : List ℤ) (slots height : ℕ) → Room slots b → height ≤ slots + 1 → (v : Event) → v ≡ its-event
+      → Asks v b height slots × (OfProgram g v × ((x : Statement) × Fetches bs (namesOf g (v .thread)) (threadAt s (v .thread) .at) x f))
+  act-asks l u b slots height room high v q =
+      subst (λ (w : Event). Asks w b height slots × (OfProgram g w × ((x : Statement) × Fetches bs (namesOf g (w .thread)) (threadAt s (w .thread) .at) x f))) (sym q) (
         record {
           ticks = record { thread = let a = r .facts .threads-few in omega arith; from-small = omega arith; to-small = u };
-          timed = timed;
           room = room;
           high = high;
         },

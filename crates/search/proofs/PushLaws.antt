@@ -1,16 +1,17 @@
 -- States on the stack: none, one, and some after others. Assumes nothing.
-use mathlib.Core.Path.{refl, sym, ap, _∙_}
+use mathlib.Core.Path.{_≡_, refl, sym, ap, _∙_}
 use mathlib.Core.List.{List, [], _∷_, _++_, append-assoc}
-use Prim.Native.Nat.{ℕ, _+_, _*_, _≤_, _<_}
+use Prim.Native.Nat.{ℕ, _+_, _*_, _-_, _≤_, _<_, min}
 use native.Mathlib.Omega.{arith}
 use lib.ListN.{length, length-append}
 use lib.IntN.{ℤ}
 use Rattle.rules.specs.Search as S
-use Rattle.state.specs.declared.State.{State}
-use Rattle.state.specs.Cells.{stored, stackOf, Sound}
+use borrow.Rule.Slice.PartMut.{putMid}
+use Rattle.state.specs.Cells.{withSlot, decode, stackOf}
 use Rattle.state.specs.Shape.{Sizes, stateOf, statesOf}
 use Rattle.state.proofs.Stack.{push}
-use Rattle.state.proofs.Round.{stored-length}
+use Rattle.state.proofs.Round.{with-slot-length}
+use Rattle.state.proofs.Writing.{slot-put}
 use Rattle.state.proofs.Shape.{states-cons}
 use Rattle.search.specs.Push.{Room, Pushed}
 
@@ -28,16 +29,23 @@ module _ {z : Sizes} {slots : ℕ} where
     same-length = q .same-length ∙ p .same-length;
   }
 
-  -- one, where there is room for it
-  pub one-pushed : (b : List ℤ) (h : ℕ) (s : State) → h < slots → Room slots b → Sound s → Pushed z slots b (stored b h s) h (h + 1) (stateOf z s ∷ [])
-  one-pushed b h s low room sound =
-      let fits : h * 100 + 100 ≤ length b = omega arith in
+  -- one, in the slot that is due: where none is left, the height alone says that one is missing
+  one-pushed : (b cells : List ℤ) (h : ℕ) → length cells ≡ 100 → h ≤ slots + 1 → Room slots b
+      → Pushed z slots b (withSlot b (min h (slots - 1)) cells) h (min (h + 1) (slots + 1)) (stateOf z (decode cells) ∷ [])
+  one-pushed b cells h hundred high room =
+      let fits : min h (slots - 1) * 100 + 100 ≤ length b = omega (arith, room .0, room .1) in
       record {
         count = omega arith;
-        stack = λ _. ap (statesOf z) (push b h s fits sound) ∙ states-cons z s (stackOf h b);
-        same-length = stored-length b h s fits;
+        stack = λ low.
+            let slot : min h (slots - 1) ≡ h = omega arith in
+            let height : min (h + 1) (slots + 1) ≡ h + 1 = omega arith in
+            let here : h * 100 + 100 ≤ length b = omega (arith, room .0, room .1) in
+            rw (slot, height) (ap (statesOf z) (push b h cells hundred here) ∙ states-cons z (decode cells) (stackOf h b));
+        same-length = with-slot-length b (min h (slots - 1)) cells hundred fits;
       }
 
-  -- where there is none, the height alone says that one is missing
-  pub none-fits : {b : List ℤ} {h : ℕ} (x : S.State) → slots ≤ h → h ≤ slots + 1 → Pushed z slots b b h (slots + 1) (x ∷ [])
-  none-fits x full high = record { count = omega arith; stack = λ low. absurd (omega arith); same-length = refl }
+  -- as the code writes it
+  pub slot-pushed : (b cells : List ℤ) (h slot k : ℕ) (x : S.State) → length cells ≡ 100 → h ≤ slots + 1 → Room slots b → slot ≡ min h (slots - 1) → k ≡ min (h + 1) (slots + 1)
+      → stateOf z (decode cells) ≡ x → Pushed z slots b (putMid (slot * 100) (slot * 100 + 100 - slot * 100) b cells) h k (x ∷ [])
+  slot-pushed b cells h slot k x hundred high room es ek ex =
+      rw (slot-put b cells (slot * 100), es, ek, sym ex) (one-pushed b cells h hundred high room)

@@ -22,9 +22,10 @@ use Rattle.reader.specs.Index.{indexOf}
 use Rattle.reader.proofs.Facts.{accepted, program-facts, index-facts}
 use Rattle.state.specs.declared.State.{State}
 use Rattle.state.specs.Shape.{Sizes, sizesOf, stateOf, statesOf}
-use Rattle.state.specs.Cells.{decode, slotOf, stored, Sound, stackOf}
+use Rattle.state.specs.Cells.{encode, decode, slotOf, stored, Sound, stackOf}
 use Rattle.state.proofs.Shape.{states-nil, states-length}
-use Rattle.state.proofs.Round.{stored-length}
+use Rattle.state.proofs.Round.{with-slot-length}
+use Rattle.state.proofs.Writing.{encode-length}
 use Rattle.state.proofs.Stack.{stack-length, push-states, top-states}
 use Rattle.search.specs.Plan.{programOf, programIn, Planned, Ready}
 use Rattle.search.specs.Turn.{Turns}
@@ -236,7 +237,7 @@ goes-from {g} {slots} {budget} {c₀} b₀ s room sound e at =
     record {
       in-budget = at .in-budget;
       in-slots = at .in-slots;
-      sized = at .sized ∙ ap length e ∙ stored-length b₀ 0 s (omega arith);
+      sized = at .sized ∙ ap length e ∙ with-slot-length b₀ 0 (encode s) (encode-length s) (omega arith);
       goes = ap (λ (xs : List S.State). search budget g slots xs unseen 0) (sym p) ∙ at .goes;
     }
 

@@ -9,14 +9,15 @@ use Rattle.rules.specs.Program.{Program}
 use Rattle.rules.specs.Search as S
 use Rattle.rules.specs.Search.{unread, states, moved}
 use Rattle.rules.specs.Expression.{Regs}
-use Rattle.interval.specs.declared.Span.{Span}
+use Rattle.rules.specs.Interval.{Interval}
+use Rattle.rules.specs.Lock.{Owner}
+use Rattle.expression.specs.Evaluation.{regsOf}
 use Rattle.refusal.specs.Shape.{refusalOf}
 use Rattle.reader.specs.Facts.{threadIn}
 use Rattle.state.specs.Shape.{Sizes, stateOf}
 use Rattle.state.specs.declared.State.{State}
-use Rattle.state.specs.declared.Thread.{Thread}
+use Rattle.state.specs.declared.moves.Move.{Move}
 use Rattle.state.specs.Access.{threadAt}
-use Rattle.state.specs.Cells.{AllTimed}
 use Rattle.search.specs.Push.{Room, Pushed}
 use Rattle.search.specs.declared.act.Event.{Event}
 use Rattle.search.specs.declared.act.Acted.{Acted}
@@ -28,10 +29,9 @@ pub record Ticks (v : Event) : Type 0 where
   pub from-small : v .from .0 < half32
   pub to-small : v .to .0 < half32
 
--- what a push of a state made from s asks
-pub record Asks (s : State) (v : Event) (b : List ℤ) (height slots : ℕ) : Type 0 where
+-- what a new state on the stack asks
+pub record Asks (v : Event) (b : List ℤ) (height slots : ℕ) : Type 0 where
   pub ticks : Ticks v
-  pub timed : AllTimed s
   pub room : Room slots b
   pub high : height ≤ slots + 1
 
@@ -49,10 +49,14 @@ abbrev pub Acts : Sizes → ℕ → List ℤ → List ℤ → ℕ → Acted → 
 Acts z slots b c h r (unread q) = (r ≡ Fault (refusalOf q)) × (length c ≡ length b)
 Acts z slots b c h r (states xs) = (k : ℕ) × (r ≡ Height k) × Pushed z slots b c h k xs
 
--- the thread where it stands after its event
-abbrev pub standingAt : Event → ℕ → List Span → Thread
-standingAt v at regs = record { at = at; clock = record { low = v .from; high = v .to }; regs = regs }
+-- the event's thread comes to a statement
+abbrev pub moveTo : Event → ℕ → Move
+moveTo v at = record { thread = v .thread; at = at; clock = record { low = v .from; high = v .to } }
 
 -- the rules' state in which the mover stands there, with these registers
 abbrev pub movedBy : Sizes → State → Event → ℕ → Regs → S.State
 movedBy z s v at rs = moved (stateOf z s) (v .thread) at (v .from .0) (v .to .0) rs (stateOf z s .vars) (stateOf z s .owners)
+
+-- the same with the registers as they were, and with these variables and owners
+abbrev pub movedWith : Sizes → State → Event → ℕ → List Interval → List Owner → S.State
+movedWith z s v at vs os = moved (stateOf z s) (v .thread) at (v .from .0) (v .to .0) (regsOf (getD (z .regs) (v .thread) 0) (threadAt s (v .thread) .regs)) vs os

@@ -9,9 +9,9 @@ use Rattle.rules.specs.Search as S
 use Rattle.state.specs.Cells.{stackOf}
 use Rattle.state.specs.Shape.{Sizes, statesOf}
 
--- the buffer has room for so many slots
+-- the buffer has room for so many slots, and for one at least
 abbrev pub Room : ℕ → List ℤ → Type 0
-Room slots b = slots * numbersPerState ≤ length b
+Room slots b = (slots * numbersPerState ≤ length b) × (1 ≤ slots)
 
 -- from the height h and the buffer b to the height k and the buffer c, the states xs went on top, the first uppermost
 pub record Pushed (z : Sizes) (slots : ℕ) (b c : List ℤ) (h k : ℕ) (xs : List S.State) : Type 0 where

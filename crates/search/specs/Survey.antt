@@ -11,7 +11,7 @@ use Rattle.rules.specs.Lock.{Owner, mayTake}
 use Rattle.rules.specs.Search.{ThreadState, Live, greatestLow, greatestHigh, turnBound, waits}
 use Rattle.reader.specs.declared.decoding.Action.{Action}
 use Rattle.reader.specs.declared.decoding.Action.the-variants.{Halt, Skip, Assign, Branch, Store, Load, Unlock, Lock}
-use Rattle.state.specs.declared.Thread.{Thread}
+use Rattle.state.specs.declared.Clock.{Clock}
 use Rattle.state.specs.Shape.{ownerOf}
 use Rattle.search.specs.Fetch.{halts}
 use Rattle.search.specs.declared.fetch.Fetched.{Fetched}
@@ -69,7 +69,7 @@ addLive a due waits = record {
 abbrev pub addClock : Survey → ℕ → ℕ → Survey
 addClock a low high = record { live = a .live; waiting = a .waiting; bound = a .bound; low = max low (a .low); high = max high (a .high) }
 
-unfoldable pub addThread : Survey → ℕ → Thread → Fetched → List ℕ → Survey
+unfoldable pub addThread : Survey → ℕ → Clock → Fetched → List ℕ → Survey
 addThread a t x f os =
-    let b = addClock a (x .clock .low .0) (x .clock .high .0) in
-    if halts (f .action) then b else addLive b (x .clock .high .0 + f .greatest) (waitsAt t (f .action) os)
+    let b = addClock a (x .low .0) (x .high .0) in
+    if halts (f .action) then b else addLive b (x .high .0 + f .greatest) (waitsAt t (f .action) os)

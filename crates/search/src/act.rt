@@ -1,6 +1,7 @@
 // The event of one thread: the states that follow go on the stack, the first made uppermost.
 use crate::fetch::Fetched;
-use crate::push::push;
+use crate::push::next_slot;
+use crate::push::one_more;
 use expression::Check;
 use expression::assigned_value;
 use expression::branch_on;
@@ -9,9 +10,19 @@ use interval::Span;
 use reader::decoding::Action;
 use refusal::Refusal;
 use state::Clock;
-use state::State;
-use state::Thread;
+use state::Move;
+use state::NUMBERS_PER_STATE;
 use state::Time;
+use state::at_of;
+use state::owner_of;
+use state::put_moved;
+use state::put_owner;
+use state::put_register;
+use state::put_registers;
+use state::put_variable;
+use state::register_of;
+use state::registers_of;
+use state::variable_of;
 ghost use mathlib.Core.Path.{_≡_};
 ghost use mathlib.Core.Bool.{Bool, true, false};
 ghost use mathlib.Core.List.{List, [], _∷_, _++_};
@@ -31,11 +42,12 @@ ghost use Rattle.expression.specs.Evaluation.{regsOf};
 ghost use Rattle.expression.specs.Comparison.{unlessFlagged};
 ghost use Rattle.search.specs.declared.act.Acted.the-variants as Acted;
 ghost use Rattle.state.specs.Shape.{Sizes, ownerOf, threadOf, sizesOf, stateOf};
-ghost use Rattle.state.specs.Access.{threadAt, varAt, ownerAt, regAt, withThread};
+ghost use Rattle.state.specs.Access.{threadAt};
+ghost use Rattle.state.specs.Cells.{decode};
 ghost use Rattle.search.specs.Plan.{programIn};
 ghost use Rattle.search.specs.Fetch.{namesOf, Fetches};
 ghost use Rattle.search.specs.Push.{Pushed};
-ghost use Rattle.search.specs.Act.{Ticks, Asks, OfProgram, Acts, standingAt, movedBy};
+ghost use Rattle.search.specs.Act.{Asks, OfProgram, Acts, moveTo, movedBy, movedWith};
 
 // An event of thread t, which has n registers, between two ticks.
 pub struct Event {
@@ -50,9 +62,9 @@ pub enum Acted {
     Height(usize),
 }
 
-// The thread at a statement, its clock at the event's ticks, with these registers.
-fn standing(v: Event, at: u8, regs: [Span; 8]) -> Thread
-    ensures { λ r. ⌜ r ≡ standingAt v at regs ⌝ }
+// The event's thread comes to a statement.
+fn moving(v: Event, at: u8) -> Move
+    ensures { λ r. ⌜ r ≡ moveTo v at ⌝ }
 {
     let from = v.from;
     let to = v.to;
@@ -60,23 +72,11 @@ fn standing(v: Event, at: u8, regs: [Span; 8]) -> Thread
         low: from,
         high: to,
     };
-    Thread {
+    Move {
+        thread: v.thread,
         at: at,
         clock: clock,
-        regs: regs,
     }
-}
-
-// The state in which the mover stands there.
-fn moved(s: State, v: Event, at: u8, regs: [Span; 8]) -> State
-    requires { ⌜ v .thread < mostThreads ⌝ }
-    ensures { λ r. ⌜ r ≡ withThread s (v .thread) (standingAt v at regs) ⌝ }
-{
-    let x = standing(v, at, regs);
-    let t = v.thread;
-    let mut u = s;
-    u.threads[t] = x;
-    u
 }
 
 // The number of the next statement.
@@ -87,48 +87,137 @@ fn next(at: u8) -> u8
     at + 1
 }
 
-fn skip(s: State, v: Event, x: Thread, work: &mut [i32], height: usize, slots: usize) -> usize
-    requires { ⌜ Asks s v (now work) height slots × (x .at < mostStatements) ⌝ }
-    ensures { λ r. ⌜ ((z : Sizes) → Pushed z slots (now (work .entry)) (now (work .exit)) height r (movedBy z s v (suc (x .at)) (regsOf (getD (z .regs) (v .thread) 0) (x .regs)) ∷ [])) ⌝ }
-{
-    let regs = x.regs;
-    let at = next(x.at);
-    push(work, height, slots, moved(s, v, at, regs))
-}
+// ---- the new state in its slot
 
-fn set_register(x: Thread, r: usize, i: Span) -> [Span; 8]
-    requires { ⌜ r < mostRegisters ⌝ }
-    ensures { λ l. ⌜ l ≡ set (x .regs) r i ⌝ }
-{
-    let mut regs = x.regs;
-    regs[r] = i;
-    regs
-}
-
-fn write_register(
-    s: State,
+fn push_moved(
+    cells: &[i32; 100],
     v: Event,
-    x: Thread,
+    at: u8,
+    work: &mut [i32],
+    height: usize,
+    slots: usize,
+) -> usize
+    requires { ⌜ Asks v (now work) height slots ⌝ }
+    ensures { λ k. ⌜ ((z : Sizes) → Pushed z slots (now (work .entry)) (now (work .exit)) height k
+        (movedBy z (decode (now (cells .entry))) v at (regsOf (getD (z .regs) (v .thread) 0) (threadAt (decode (now (cells .entry))) (v .thread) .regs)) ∷ [])) ⌝ }
+{
+    let m = moving(v, at);
+    let from = next_slot(height, slots) * NUMBERS_PER_STATE;
+    put_moved(&mut work[from..from + NUMBERS_PER_STATE], cells, m);
+    one_more(height, slots)
+}
+
+fn push_register(
+    cells: &[i32; 100],
+    v: Event,
+    at: u8,
     r: usize,
     i: Span,
     work: &mut [i32],
     height: usize,
     slots: usize,
 ) -> usize
-    requires { ⌜ Asks s v (now work) height slots × ((x .at < mostStatements) × (r < mostRegisters)) ⌝ }
+    requires { ⌜ Asks v (now work) height slots × (r < mostRegisters) ⌝ }
     ensures { λ k. ⌜ ((z : Sizes) → Pushed z slots (now (work .entry)) (now (work .exit)) height k
-        (movedBy z s v (suc (x .at)) (set (regsOf (getD (z .regs) (v .thread) 0) (x .regs)) r (intervalOf i)) ∷ [])) ⌝ }
+        (movedBy z (decode (now (cells .entry))) v at (set (regsOf (getD (z .regs) (v .thread) 0) (threadAt (decode (now (cells .entry))) (v .thread) .regs)) r (intervalOf i)) ∷ [])) ⌝ }
 {
-    let regs = set_register(x, r, i);
-    let at = next(x.at);
-    push(work, height, slots, moved(s, v, at, regs))
+    let m = moving(v, at);
+    let from = next_slot(height, slots) * NUMBERS_PER_STATE;
+    put_register(&mut work[from..from + NUMBERS_PER_STATE], cells, m, r, i);
+    one_more(height, slots)
+}
+
+fn push_registers(
+    cells: &[i32; 100],
+    v: Event,
+    at: u8,
+    regs: [Span; 8],
+    work: &mut [i32],
+    height: usize,
+    slots: usize,
+) -> usize
+    requires { ⌜ Asks v (now work) height slots ⌝ }
+    ensures { λ k. ⌜ ((z : Sizes) → Pushed z slots (now (work .entry)) (now (work .exit)) height k
+        (movedBy z (decode (now (cells .entry))) v at (regsOf (getD (z .regs) (v .thread) 0) regs) ∷ [])) ⌝ }
+{
+    let m = moving(v, at);
+    let from = next_slot(height, slots) * NUMBERS_PER_STATE;
+    put_registers(&mut work[from..from + NUMBERS_PER_STATE], cells, m, regs);
+    one_more(height, slots)
+}
+
+fn push_variable(
+    cells: &[i32; 100],
+    v: Event,
+    at: u8,
+    x: usize,
+    i: Span,
+    work: &mut [i32],
+    height: usize,
+    slots: usize,
+) -> usize
+    requires { ⌜ Asks v (now work) height slots × (x < mostVariables) ⌝ }
+    ensures { λ k. ⌜ ((z : Sizes) → Pushed z slots (now (work .entry)) (now (work .exit)) height k
+        (movedWith z (decode (now (cells .entry))) v at (set (stateOf z (decode (now (cells .entry))) .vars) x (intervalOf i)) (stateOf z (decode (now (cells .entry))) .owners) ∷ [])) ⌝ }
+{
+    let m = moving(v, at);
+    let from = next_slot(height, slots) * NUMBERS_PER_STATE;
+    put_variable(&mut work[from..from + NUMBERS_PER_STATE], cells, m, x, i);
+    one_more(height, slots)
+}
+
+fn push_owner(
+    cells: &[i32; 100],
+    v: Event,
+    at: u8,
+    l: usize,
+    o: u8,
+    work: &mut [i32],
+    height: usize,
+    slots: usize,
+) -> usize
+    requires { ⌜ Asks v (now work) height slots × (l < mostLocks) ⌝ }
+    ensures { λ k. ⌜ ((z : Sizes) → Pushed z slots (now (work .entry)) (now (work .exit)) height k
+        (movedWith z (decode (now (cells .entry))) v at (stateOf z (decode (now (cells .entry))) .vars) (set (stateOf z (decode (now (cells .entry))) .owners) l (ownerOf o)) ∷ [])) ⌝ }
+{
+    let m = moving(v, at);
+    let from = next_slot(height, slots) * NUMBERS_PER_STATE;
+    put_owner(&mut work[from..from + NUMBERS_PER_STATE], cells, m, l, o);
+    one_more(height, slots)
+}
+
+// ---- the statements
+
+fn skip(cells: &[i32; 100], v: Event, work: &mut [i32], height: usize, slots: usize) -> usize
+    requires { ⌜ Asks v (now work) height slots × (threadAt (decode (now cells)) (v .thread) .at < mostStatements) ⌝ }
+    ensures { λ k. ⌜ ((z : Sizes) → Pushed z slots (now (work .entry)) (now (work .exit)) height k
+        (movedBy z (decode (now (cells .entry))) v (suc (threadAt (decode (now (cells .entry))) (v .thread) .at)) (regsOf (getD (z .regs) (v .thread) 0) (threadAt (decode (now (cells .entry))) (v .thread) .regs)) ∷ [])) ⌝ }
+{
+    let on = next(at_of(cells, v.thread));
+    push_moved(cells, v, on, work, height, slots)
+}
+
+fn write_register(
+    cells: &[i32; 100],
+    v: Event,
+    r: usize,
+    i: Span,
+    work: &mut [i32],
+    height: usize,
+    slots: usize,
+) -> usize
+    requires { ⌜ Asks v (now work) height slots × ((threadAt (decode (now cells)) (v .thread) .at < mostStatements) × (r < mostRegisters)) ⌝ }
+    ensures { λ k. ⌜ ((z : Sizes) → Pushed z slots (now (work .entry)) (now (work .exit)) height k
+        (movedBy z (decode (now (cells .entry))) v (suc (threadAt (decode (now (cells .entry))) (v .thread) .at)) (set (regsOf (getD (z .regs) (v .thread) 0) (threadAt (decode (now (cells .entry))) (v .thread) .regs)) r (intervalOf i)) ∷ [])) ⌝ }
+{
+    let on = next(at_of(cells, v.thread));
+    push_register(cells, v, on, r, i, work, height, slots)
 }
 
 fn assign(
     sheet: &[u8],
-    s: State,
+    cells: &[i32; 100],
     v: Event,
-    x: Thread,
     r: usize,
     at: usize,
     end: usize,
@@ -136,18 +225,18 @@ fn assign(
     height: usize,
     slots: usize,
 ) -> Acted
-    requires { ⌜ Asks s v (now work) height slots × ((x .at < mostStatements) × ((r < mostRegisters) × ((v .registers ≤ mostRegisters) × (end ≤ length (now sheet))))) ⌝ }
+    requires { ⌜ Asks v (now work) height slots × ((threadAt (decode (now cells)) (v .thread) .at < mostStatements) × ((r < mostRegisters) × ((v .registers ≤ mostRegisters) × (end ≤ length (now sheet))))) ⌝ }
     ensures { λ k. ⌜ ((z : Sizes) (a : P.Arith) → getD (z .regs) (v .thread) 0 ≡ v .registers
         → readArith deepest (now (sheet .entry)) end (v .registers) at ≡ got a end
         → Acts z slots (now (work .entry)) (now (work .exit)) height k
-        (effect (stateOf z s) (v .thread) (threadOf (v .registers) x) (v .from .0) (v .to .0) (P.assign r a))) ⌝ }
+        (effect (stateOf z (decode (now (cells .entry)))) (v .thread) (threadOf (v .registers) (threadAt (decode (now (cells .entry))) (v .thread))) (v .from .0) (v .to .0) (P.assign r a))) ⌝ }
 {
-    let regs = x.regs;
+    let regs = registers_of(cells, v.thread);
     let n = v.registers;
     match assigned_value(sheet, at, end, n, regs) {
         Reading::Fault(q) => Acted::Fault(q),
         Reading::Is(i) => {
-            let h = write_register(s, v, x, r, i, work, height, slots);
+            let h = write_register(cells, v, r, i, work, height, slots);
             Acted::Height(h)
         }
     }
@@ -155,7 +244,7 @@ fn assign(
 
 // One way of a branch, left out where it is empty.
 fn way(
-    s: State,
+    cells: &[i32; 100],
     v: Event,
     at: u8,
     empty: bool,
@@ -164,22 +253,21 @@ fn way(
     height: usize,
     slots: usize,
 ) -> usize
-    requires { ⌜ Asks s v (now work) height slots ⌝ }
+    requires { ⌜ Asks v (now work) height slots ⌝ }
     ensures { λ k. ⌜ ((z : Sizes) → Pushed z slots (now (work .entry)) (now (work .exit)) height k
-        (unlessEmpty (λ rs. movedBy z s v at rs) (unlessFlagged empty (regsOf (getD (z .regs) (v .thread) 0) regs)))) ⌝ }
+        (unlessEmpty (λ rs. movedBy z (decode (now (cells .entry))) v at rs) (unlessFlagged empty (regsOf (getD (z .regs) (v .thread) 0) regs)))) ⌝ }
 {
     if empty {
         return height;
     }
-    push(work, height, slots, moved(s, v, at, regs))
+    push_registers(cells, v, at, regs, work, height, slots)
 }
 
 // The no state first, so that the yes state stands above it.
 fn branch(
     sheet: &[u8],
-    s: State,
+    cells: &[i32; 100],
     v: Event,
-    x: Thread,
     target: usize,
     at: usize,
     end: usize,
@@ -187,72 +275,68 @@ fn branch(
     height: usize,
     slots: usize,
 ) -> Acted
-    requires { ⌜ Asks s v (now work) height slots × ((x .at < mostStatements) × ((target < mostStatements) × ((v .registers ≤ mostRegisters) × (end ≤ length (now sheet))))) ⌝ }
+    requires { ⌜ Asks v (now work) height slots × ((threadAt (decode (now cells)) (v .thread) .at < mostStatements) × ((target < mostStatements) × ((v .registers ≤ mostRegisters) × (end ≤ length (now sheet))))) ⌝ }
     ensures { λ k. ⌜ ((z : Sizes) (a : P.Condition) → getD (z .regs) (v .thread) 0 ≡ v .registers
         → readCondition deepest (now (sheet .entry)) end (v .registers) at ≡ got a end
         → Acts z slots (now (work .entry)) (now (work .exit)) height k
-        (effect (stateOf z s) (v .thread) (threadOf (v .registers) x) (v .from .0) (v .to .0) (P.branch target a))) ⌝ }
+        (effect (stateOf z (decode (now (cells .entry)))) (v .thread) (threadOf (v .registers) (threadAt (decode (now (cells .entry))) (v .thread))) (v .from .0) (v .to .0) (P.branch target a))) ⌝ }
 {
-    let regs = x.regs;
+    let regs = registers_of(cells, v.thread);
     let n = v.registers;
     let b = branch_on(sheet, at, end, n, regs);
     let check = b.check;
     match check {
         Check::Fault(q) => Acted::Fault(q),
         Check::Passed => {
-            let on = next(x.at);
+            let on = next(at_of(cells, v.thread));
             let no = b.no;
             let no_regs = no.regs;
-            let h = way(s, v, on, no.empty, no_regs, work, height, slots);
+            let h = way(cells, v, on, no.empty, no_regs, work, height, slots);
             let to = target as u8;
             let yes = b.yes;
             let yes_regs = yes.regs;
-            let k = way(s, v, to, yes.empty, yes_regs, work, h, slots);
+            let k = way(cells, v, to, yes.empty, yes_regs, work, h, slots);
             Acted::Height(k)
         }
     }
 }
 
 fn store(
-    s: State,
+    cells: &[i32; 100],
     v: Event,
-    x: Thread,
     r: usize,
     k: usize,
     work: &mut [i32],
     height: usize,
     slots: usize,
 ) -> usize
-    requires { ⌜ Asks s v (now work) height slots × ((x .at < mostStatements) × ((r < mostRegisters) × (k < mostVariables))) ⌝ }
+    requires { ⌜ Asks v (now work) height slots × ((threadAt (decode (now cells)) (v .thread) .at < mostStatements) × ((r < mostRegisters) × (k < mostVariables))) ⌝ }
     ensures { λ h. ⌜ ((z : Sizes) → r < getD (z .regs) (v .thread) 0
         → Acts z slots (now (work .entry)) (now (work .exit)) height (Acted.Height h)
-        (effect (stateOf z s) (v .thread) (threadOf (getD (z .regs) (v .thread) 0) x) (v .from .0) (v .to .0) (P.store r k))) ⌝ }
+        (effect (stateOf z (decode (now (cells .entry)))) (v .thread) (threadOf (getD (z .regs) (v .thread) 0) (threadAt (decode (now (cells .entry))) (v .thread))) (v .from .0) (v .to .0) (P.store r k))) ⌝ }
 {
-    let regs = x.regs;
-    let i = regs[r];
-    let at = next(x.at);
-    let mut u = moved(s, v, at, regs);
-    u.vars[k] = i;
-    push(work, height, slots, u)
+    let t = v.thread;
+    let i = register_of(cells, t, r);
+    let on = next(at_of(cells, t));
+    push_variable(cells, v, on, k, i, work, height, slots)
 }
 
 fn load(
-    s: State,
+    cells: &[i32; 100],
     v: Event,
-    x: Thread,
     r: usize,
     k: usize,
     work: &mut [i32],
     height: usize,
     slots: usize,
 ) -> usize
-    requires { ⌜ Asks s v (now work) height slots × ((x .at < mostStatements) × ((r < mostRegisters) × (k < mostVariables))) ⌝ }
+    requires { ⌜ Asks v (now work) height slots × ((threadAt (decode (now cells)) (v .thread) .at < mostStatements) × ((r < mostRegisters) × (k < mostVariables))) ⌝ }
     ensures { λ h. ⌜ ((z : Sizes) → k < z .vars
         → Acts z slots (now (work .entry)) (now (work .exit)) height (Acted.Height h)
-        (effect (stateOf z s) (v .thread) (threadOf (getD (z .regs) (v .thread) 0) x) (v .from .0) (v .to .0) (P.load r k))) ⌝ }
+        (effect (stateOf z (decode (now (cells .entry)))) (v .thread) (threadOf (getD (z .regs) (v .thread) 0) (threadAt (decode (now (cells .entry))) (v .thread))) (v .from .0) (v .to .0) (P.load r k))) ⌝ }
 {
-    let i = s.vars[k];
-    write_register(s, v, x, r, i, work, height, slots)
+    let i = variable_of(cells, k);
+    write_register(cells, v, r, i, work, height, slots)
 }
 
 // How a lock's cell names thread t.
@@ -285,83 +369,68 @@ fn after_unlock(t: usize, o: u8) -> u8
 }
 
 fn unlock(
-    s: State,
+    cells: &[i32; 100],
     v: Event,
-    x: Thread,
     l: usize,
     work: &mut [i32],
     height: usize,
     slots: usize,
 ) -> usize
-    requires { ⌜ Asks s v (now work) height slots × ((x .at < mostStatements) × (l < mostLocks)) ⌝ }
+    requires { ⌜ Asks v (now work) height slots × ((threadAt (decode (now cells)) (v .thread) .at < mostStatements) × (l < mostLocks)) ⌝ }
     ensures { λ h. ⌜ ((z : Sizes) → l < z .locks
         → Acts z slots (now (work .entry)) (now (work .exit)) height (Acted.Height h)
-        (effect (stateOf z s) (v .thread) (threadOf (getD (z .regs) (v .thread) 0) x) (v .from .0) (v .to .0) (P.unlock l))) ⌝ }
+        (effect (stateOf z (decode (now (cells .entry)))) (v .thread) (threadOf (getD (z .regs) (v .thread) 0) (threadAt (decode (now (cells .entry))) (v .thread))) (v .from .0) (v .to .0) (P.unlock l))) ⌝ }
 {
     let t = v.thread;
-    let o = s.owners[l];
-    let p = after_unlock(t, o);
-    let regs = x.regs;
-    let at = next(x.at);
-    let mut u = moved(s, v, at, regs);
-    u.owners[l] = p;
-    push(work, height, slots, u)
+    let o = after_unlock(t, owner_of(cells, l));
+    let on = next(at_of(cells, t));
+    push_owner(cells, v, on, l, o, work, height, slots)
 }
 
 fn lock(
-    s: State,
+    cells: &[i32; 100],
     v: Event,
-    x: Thread,
     l: usize,
     work: &mut [i32],
     height: usize,
     slots: usize,
 ) -> usize
-    requires { ⌜ Asks s v (now work) height slots × ((x .at < mostStatements) × (l < mostLocks)) ⌝ }
+    requires { ⌜ Asks v (now work) height slots × ((threadAt (decode (now cells)) (v .thread) .at < mostStatements) × (l < mostLocks)) ⌝ }
     ensures { λ h. ⌜ ((z : Sizes) → l < z .locks
         → Acts z slots (now (work .entry)) (now (work .exit)) height (Acted.Height h)
-        (effect (stateOf z s) (v .thread) (threadOf (getD (z .regs) (v .thread) 0) x) (v .from .0) (v .to .0) (P.lock l))) ⌝ }
+        (effect (stateOf z (decode (now (cells .entry)))) (v .thread) (threadOf (getD (z .regs) (v .thread) 0) (threadAt (decode (now (cells .entry))) (v .thread))) (v .from .0) (v .to .0) (P.lock l))) ⌝ }
 {
     let t = v.thread;
-    let o = s.owners[l];
-    let regs = x.regs;
-    if may_take(t, o) {
-        let p = owner(t);
-        let at = next(x.at);
-        let mut u = moved(s, v, at, regs);
-        u.owners[l] = p;
-        return push(work, height, slots, u);
+    let at = at_of(cells, t);
+    if may_take(t, owner_of(cells, l)) {
+        return push_owner(cells, v, next(at), l, owner(t), work, height, slots);
     }
-    let at = x.at;
-    push(work, height, slots, moved(s, v, at, regs))
+    push_moved(cells, v, at, work, height, slots)
 }
 
 pub(crate) fn act(
     sheet: &[u8],
-    s: State,
+    cells: &[i32; 100],
     v: Event,
     f: Fetched,
     work: &mut [i32],
     height: usize,
     slots: usize,
 ) -> Acted
-    requires { ⌜ Asks s v (now work) height slots × (OfProgram (programIn (now sheet)) v
-        × ((x : Statement) × Fetches (now sheet) (namesOf (programIn (now sheet)) (v .thread)) (threadAt s (v .thread) .at) x f)) ⌝ }
-    ensures { λ k. ⌜ ((x : Statement) → Fetches (now (sheet .entry)) (namesOf (programIn (now (sheet .entry))) (v .thread)) (threadAt s (v .thread) .at) x f
+    requires { ⌜ Asks v (now work) height slots × (OfProgram (programIn (now sheet)) v
+        × ((x : Statement) × Fetches (now sheet) (namesOf (programIn (now sheet)) (v .thread)) (threadAt (decode (now cells)) (v .thread) .at) x f)) ⌝ }
+    ensures { λ k. ⌜ ((x : Statement) → Fetches (now (sheet .entry)) (namesOf (programIn (now (sheet .entry))) (v .thread)) (threadAt (decode (now (cells .entry))) (v .thread) .at) x f
         → Acts (sizesOf (programIn (now (sheet .entry)))) slots (now (work .entry)) (now (work .exit)) height k
-        (effect (stateOf (sizesOf (programIn (now (sheet .entry)))) s) (v .thread) (threadOf (v .registers) (threadAt s (v .thread))) (v .from .0) (v .to .0) (x .action))) ⌝ }
+        (effect (stateOf (sizesOf (programIn (now (sheet .entry)))) (decode (now (cells .entry)))) (v .thread) (threadOf (v .registers) (threadAt (decode (now (cells .entry))) (v .thread))) (v .from .0) (v .to .0) (x .action))) ⌝ }
 {
-    let t = v.thread;
-    let x = s.threads[t];
     let action = f.action;
     match action {
         Action::Halt => Acted::Height(height),
-        Action::Skip => Acted::Height(skip(s, v, x, work, height, slots)),
+        Action::Skip => Acted::Height(skip(cells, v, work, height, slots)),
         Action::Assign { register, at, end } => assign(
             sheet,
-            s,
+            cells,
             v,
-            x,
             register,
             at,
             end,
@@ -371,9 +440,8 @@ pub(crate) fn act(
         ),
         Action::Branch { target, at, end } => branch(
             sheet,
-            s,
+            cells,
             v,
-            x,
             target,
             at,
             end,
@@ -382,12 +450,12 @@ pub(crate) fn act(
             slots,
         ),
         Action::Store { register, variable } => {
-            Acted::Height(store(s, v, x, register, variable, work, height, slots))
+            Acted::Height(store(cells, v, register, variable, work, height, slots))
         }
         Action::Load { register, variable } => {
-            Acted::Height(load(s, v, x, register, variable, work, height, slots))
+            Acted::Height(load(cells, v, register, variable, work, height, slots))
         }
-        Action::Unlock(l) => Acted::Height(unlock(s, v, x, l, work, height, slots)),
-        Action::Lock(l) => Acted::Height(lock(s, v, x, l, work, height, slots)),
+        Action::Unlock(l) => Acted::Height(unlock(cells, v, l, work, height, slots)),
+        Action::Lock(l) => Acted::Height(lock(cells, v, l, work, height, slots)),
     }
 }

@@ -1,19 +1,27 @@
-// New states on top of the stack. The height counts on where there is no room, up to one more than there are slots, so that
-// the end of a turn can tell.
-use state::State;
-use state::cells::store;
-ghost use Prim.Native.Nat.{_+_, _≤_};
-ghost use mathlib.Core.List.{[], _∷_};
-ghost use Rattle.state.specs.Cells.{AllTimed};
-ghost use Rattle.state.specs.Shape.{Sizes, stateOf};
-ghost use Rattle.search.specs.Push.{Room, Pushed};
+// Where a new state goes: on top of the stack. The height counts up to one more than there are slots, so that the end of a turn
+// can tell.
+ghost use mathlib.Core.Path.{_≡_};
+ghost use Prim.Native.Nat.{_+_, _-_, _≤_, min};
+ghost use mir.Syntax.{w64};
+ghost use mir.Val.{Fits};
 
-pub(crate) fn push(work: &mut [i32], height: usize, slots: usize, s: State) -> usize
-    requires { ⌜ Room slots (now work) × ((height ≤ slots + 1) × AllTimed s) ⌝ }
-    ensures { λ r. ⌜ ((z : Sizes) → Pushed z slots (now (work .entry)) (now (work .exit)) height r (stateOf z s ∷ [])) ⌝ }
+// The slot of the next state. Where none is left it is the last one: the turn then ends with refusal 14, and no state counts.
+pub(crate) fn next_slot(height: usize, slots: usize) -> usize
+    requires { ⌜ 1 ≤ slots ⌝ }
+    ensures { λ r. ⌜ r ≡ min height (slots - 1) ⌝ }
 {
     if height < slots {
-        store(work, height, s);
+        return height;
+    }
+    slots - 1
+}
+
+// The height with one state more.
+pub(crate) fn one_more(height: usize, slots: usize) -> usize
+    requires { ⌜ (height ≤ slots + 1) × Fits w64 (slots + 1) ⌝ }
+    ensures { λ r. ⌜ r ≡ min (height + 1) (slots + 1) ⌝ }
+{
+    if height < slots {
         return height + 1;
     }
     slots + 1

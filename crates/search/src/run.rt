@@ -7,9 +7,9 @@ use crate::turn::turn;
 use reader::Index;
 use refusal::Refusal;
 use state::State;
-use state::cells::load;
-use state::cells::store;
 use state::start;
+use state::store;
+use state::take_slot;
 ghost use mathlib.Core.Path.{_≡_};
 ghost use mathlib.Core.Bool.{Bool, true, false, _&&_, not};
 ghost use mathlib.Core.List.{List, [], _∷_};
@@ -65,7 +65,7 @@ fn search(
     work: &mut [i32],
     slots: usize,
 ) -> Outcome
-    requires { ⌜ Ready (now sheet) plan (now places) × (AllTimed first × (Room slots (now work) × (1 ≤ slots))) ⌝ }
+    requires { ⌜ Ready (now sheet) plan (now places) × (AllTimed first × Room slots (now work)) ⌝ }
     ensures { λ r. ⌜ endOf r ≡ S.search budget (programIn (now (sheet .entry))) slots (stateOf (sizesOf (programIn (now (sheet .entry)))) first ∷ []) unseen 0 ⌝ }
     ensures { λ r. ⌜ length (now (work .exit)) ≡ length (now (work .entry)) ⌝ }
 {
@@ -82,9 +82,9 @@ fn search(
             return Outcome::Fails(Refusal::OutOfSteps, 0, steps);
         }
         height -= 1;
-        let s = load(work, height);
+        let cells = take_slot(work, height);
         steps += 1;
-        match turn(sheet, places, plan, s, work, height, slots) {
+        match turn(sheet, places, plan, &cells, work, height, slots) {
             Turned::Refused(r, p) => {
                 return Outcome::Fails(r, p, steps);
             }
@@ -104,7 +104,7 @@ fn search(
 
 // The search of a sheet that reads, with its index: from its starting state, on a stack of so many slots.
 pub fn search_sheet(sheet: &[u8], index: Index, work: &mut [i32], slots: usize) -> Outcome
-    requires { ⌜ (index ≡ indexOf (readSheet (now sheet))) × ((index .refusal ≡ 0) × (Room slots (now work) × (1 ≤ slots))) ⌝ }
+    requires { ⌜ (index ≡ indexOf (readSheet (now sheet))) × ((index .refusal ≡ 0) × Room slots (now work)) ⌝ }
     ensures { λ r. ⌜ endOf r ≡ searchFrom (programIn (now (sheet .entry))) slots ⌝ }
     ensures { λ r. ⌜ length (now (work .exit)) ≡ length (now (work .entry)) ⌝ }
 {

@@ -5,8 +5,10 @@ use crate::fetch::fetch;
 use crate::fetch::is_halt;
 use crate::plan::Plan;
 use reader::decoding::Action;
-use state::State;
-use state::Thread;
+use state::Clock;
+use state::at_of;
+use state::clock_of;
+use state::owner_of;
 ghost use mathlib.Core.Path.{_≡_};
 ghost use mathlib.Core.Bool.{Bool, true, false, _&&_, not};
 ghost use mathlib.Core.List.{List, [], _∷_};
@@ -19,7 +21,7 @@ ghost use Rattle.rules.specs.Program.{Program, Statement};
 ghost use Rattle.rules.specs.Search as S;
 ghost use Rattle.reader.specs.Facts.{statementIn};
 ghost use Rattle.state.specs.Shape.{ownersOf, threadOf, sizesOf, stateOf};
-ghost use Rattle.state.specs.Cells.{Timed, AllTimed};
+ghost use Rattle.state.specs.Cells.{decode};
 ghost use Rattle.search.specs.Plan.{programIn, Ready};
 ghost use Rattle.search.specs.Fetch.{namesOf, Fetches};
 ghost use Rattle.search.specs.Survey.{Surveys, LockThere, waitsAt, addLive, addClock, addThread};
@@ -48,13 +50,13 @@ pub fn lesser(a: u32, b: u32) -> u32
 }
 
 // Thread t stands at a lock that another owns.
-fn waits(t: usize, action: Action, owners: [u8; 8]) -> bool
+fn waits(t: usize, action: Action, cells: &[i32; 100]) -> bool
     requires { ⌜ (t < mostThreads) × LockThere action ⌝ }
-    ensures { λ r. ⌜ r ≡ waitsAt t action owners ⌝ }
+    ensures { λ r. ⌜ r ≡ waitsAt t action (decode (now (cells .entry)) .owners) ⌝ }
 {
     match action {
         Action::Lock(l) => {
-            let o = owners[l];
+            let o = owner_of(cells, l);
             !may_take(t, o)
         }
         _ => false,
@@ -88,28 +90,32 @@ fn with_clock(a: Survey, low: u32, high: u32) -> Survey
 }
 
 // One more thread.
-fn with_thread(a: Survey, t: usize, x: Thread, f: Fetched, owners: [u8; 8]) -> Survey
-    requires { ⌜ (t < mostThreads) × (Timed x × ((f .greatest < 65536) × LockThere (f .action))) ⌝ }
-    ensures { λ r. ⌜ r ≡ addThread a t x f owners ⌝ }
+fn with_thread(a: Survey, t: usize, clock: Clock, f: Fetched, cells: &[i32; 100]) -> Survey
+    requires { ⌜ (t < mostThreads) × ((clock .high .0 < half32) × ((f .greatest < 65536) × LockThere (f .action))) ⌝ }
+    ensures { λ r. ⌜ r ≡ addThread a t clock f (decode (now (cells .entry)) .owners) ⌝ }
 {
-    let low = x.clock.low.0;
-    let high = x.clock.high.0;
+    let low = clock.low.0;
+    let high = clock.high.0;
     let b = with_clock(a, low, high);
     let action = f.action;
     if is_halt(action) {
         return b;
     }
     let due = high + f.greatest;
-    let w = waits(t, action, owners);
+    let w = waits(t, action, cells);
     with_live(b, due, w)
 }
 
-pub(crate) fn survey_threads(sheet: &[u8], places: &[u16; 256], plan: Plan, s: State) -> Survey
-    requires { ⌜ Ready (now sheet) plan (now places) × AllTimed s ⌝ }
-    ensures { λ r. ⌜ Surveys (stateOf (sizesOf (programIn (now (sheet .entry)))) s .owners) (liveAfter (programIn (now (sheet .entry))) (stateOf (sizesOf (programIn (now (sheet .entry)))) s) 0)
-        (stateOf (sizesOf (programIn (now (sheet .entry)))) s .threads) r ⌝ }
+pub(crate) fn survey_threads(
+    sheet: &[u8],
+    places: &[u16; 256],
+    plan: Plan,
+    cells: &[i32; 100],
+) -> Survey
+    requires { ⌜ Ready (now sheet) plan (now places) ⌝ }
+    ensures { λ r. ⌜ Surveys (stateOf (sizesOf (programIn (now (sheet .entry)))) (decode (now (cells .entry))) .owners) (liveAfter (programIn (now (sheet .entry))) (stateOf (sizesOf (programIn (now (sheet .entry)))) (decode (now (cells .entry)))) 0)
+        (stateOf (sizesOf (programIn (now (sheet .entry)))) (decode (now (cells .entry))) .threads) r ⌝ }
 {
-    let owners = s.owners;
     let mut a = Survey {
         live: false,
         waiting: true,
@@ -120,9 +126,8 @@ pub(crate) fn survey_threads(sheet: &[u8], places: &[u16; 256], plan: Plan, s: S
     let mut t = plan.threads;
     while 0 < t {
         t -= 1;
-        let x = s.threads[t];
-        let f = fetch(sheet, places, plan, t, x.at);
-        a = with_thread(a, t, x, f, owners);
+        let f = fetch(sheet, places, plan, t, at_of(cells, t));
+        a = with_thread(a, t, clock_of(cells, t), f, cells);
     }
     a
 }

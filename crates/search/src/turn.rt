@@ -8,8 +8,9 @@ use crate::plan::Plan;
 use crate::survey::greater;
 use crate::survey::survey_threads;
 use refusal::Refusal;
-use state::State;
 use state::Time;
+use state::at_of;
+use state::clock_of;
 ghost use mathlib.Core.Path.{_≡_};
 ghost use mathlib.Core.Bool.{Bool, true, false, _&&_, not};
 ghost use mathlib.Core.List.{List, [], _∷_};
@@ -23,7 +24,7 @@ ghost use Rattle.rules.specs.Search as S;
 ghost use Rattle.rules.specs.Search.{events, greatestLow};
 ghost use Rattle.reader.specs.Index.{noEntry};
 ghost use Rattle.state.specs.Shape.{sizesOf, stateOf};
-ghost use Rattle.state.specs.Cells.{AllTimed};
+ghost use Rattle.state.specs.Cells.{AllTimed, decode};
 ghost use Rattle.search.specs.Plan.{programIn, Ready};
 ghost use Rattle.search.specs.Push.{Room};
 ghost use Rattle.search.specs.Turn.{liveAfter, Makes, heightOf, Turns, overOf, eventOf, turnedOf};
@@ -69,7 +70,7 @@ fn before(
     sheet: &[u8],
     places: &[u16; 256],
     plan: Plan,
-    s: State,
+    cells: &[i32; 100],
     t: usize,
     latest: u32,
     bound: u32,
@@ -78,24 +79,24 @@ fn before(
     height: usize,
     slots: usize,
 ) -> Made
-    requires { ⌜ Ready (now sheet) plan (now places) × ((t < length (programIn (now sheet) .threads)) × (AllTimed s × ((bound < half32) × ((latest < half32) × (Room slots (now work) × (height ≤ slots + 1)))))) ⌝ }
+    requires { ⌜ Ready (now sheet) plan (now places) × ((t < length (programIn (now sheet) .threads)) × ((bound < half32) × ((latest < half32) × (Room slots (now work) × (height ≤ slots + 1))))) ⌝ }
     ensures { λ r. ⌜ ((b : List ℤ) (h : ℕ) → height ≡ heightOf later h
-        → Makes (sizesOf (programIn (now (sheet .entry)))) slots b h (now (work .entry)) later (events (stateOf (sizesOf (programIn (now (sheet .entry)))) s) latest bound (liveAfter (programIn (now (sheet .entry))) (stateOf (sizesOf (programIn (now (sheet .entry)))) s) (suc t)))
-        → Makes (sizesOf (programIn (now (sheet .entry)))) slots b h (now (work .exit)) r (events (stateOf (sizesOf (programIn (now (sheet .entry)))) s) latest bound (liveAfter (programIn (now (sheet .entry))) (stateOf (sizesOf (programIn (now (sheet .entry)))) s) t))) ⌝ }
+        → Makes (sizesOf (programIn (now (sheet .entry)))) slots b h (now (work .entry)) later (events (stateOf (sizesOf (programIn (now (sheet .entry)))) (decode (now (cells .entry)))) latest bound (liveAfter (programIn (now (sheet .entry))) (stateOf (sizesOf (programIn (now (sheet .entry)))) (decode (now (cells .entry)))) (suc t)))
+        → Makes (sizesOf (programIn (now (sheet .entry)))) slots b h (now (work .exit)) r (events (stateOf (sizesOf (programIn (now (sheet .entry)))) (decode (now (cells .entry)))) latest bound (liveAfter (programIn (now (sheet .entry))) (stateOf (sizesOf (programIn (now (sheet .entry)))) (decode (now (cells .entry)))) t))) ⌝ }
     ensures { λ r. ⌜ length (now (work .exit)) ≡ length (now (work .entry)) ⌝ }
 {
-    let x = s.threads[t];
-    let f = fetch(sheet, places, plan, t, x.at);
+    let f = fetch(sheet, places, plan, t, at_of(cells, t));
     let action = f.action;
     if is_halt(action) {
         return later;
     }
-    let from = greater(latest, x.clock.low.0 + f.least);
+    let clock = clock_of(cells, t);
+    let from = greater(latest, clock.low.0 + f.least);
     if bound < from {
         return later;
     }
     let v = event(plan, t, from, bound);
-    let r = act(sheet, s, v, f, work, height, slots);
+    let r = act(sheet, cells, v, f, work, height, slots);
     over(later, r, f.place)
 }
 
@@ -112,16 +113,16 @@ fn expand(
     sheet: &[u8],
     places: &[u16; 256],
     plan: Plan,
-    s: State,
+    cells: &[i32; 100],
     latest: u32,
     bound: u32,
     work: &mut [i32],
     height: usize,
     slots: usize,
 ) -> Made
-    requires { ⌜ Ready (now sheet) plan (now places) × (AllTimed s × ((bound < half32) × ((latest < half32) × (Room slots (now work) × (height ≤ slots))))) ⌝ }
+    requires { ⌜ Ready (now sheet) plan (now places) × ((bound < half32) × ((latest < half32) × (Room slots (now work) × (height ≤ slots)))) ⌝ }
     ensures { λ r. ⌜ Makes (sizesOf (programIn (now (sheet .entry)))) slots (now (work .entry)) height (now (work .exit)) r
-        (events (stateOf (sizesOf (programIn (now (sheet .entry)))) s) latest bound (liveAfter (programIn (now (sheet .entry))) (stateOf (sizesOf (programIn (now (sheet .entry)))) s) 0)) ⌝ }
+        (events (stateOf (sizesOf (programIn (now (sheet .entry)))) (decode (now (cells .entry)))) latest bound (liveAfter (programIn (now (sheet .entry))) (stateOf (sizesOf (programIn (now (sheet .entry)))) (decode (now (cells .entry)))) 0)) ⌝ }
 {
     let mut made = Made::Height(height);
     let mut t = plan.threads;
@@ -132,7 +133,7 @@ fn expand(
             sheet,
             places,
             plan,
-            s,
+            cells,
             t,
             latest,
             bound,
@@ -164,16 +165,16 @@ pub(crate) fn turn(
     sheet: &[u8],
     places: &[u16; 256],
     plan: Plan,
-    s: State,
+    cells: &[i32; 100],
     work: &mut [i32],
     height: usize,
     slots: usize,
 ) -> Turned
-    requires { ⌜ Ready (now sheet) plan (now places) × (AllTimed s × (Room slots (now work) × (height ≤ slots))) ⌝ }
+    requires { ⌜ Ready (now sheet) plan (now places) × (AllTimed (decode (now cells)) × (Room slots (now work) × (height ≤ slots))) ⌝ }
     ensures { λ r. ⌜ Turns (sizesOf (programIn (now (sheet .entry)))) slots (now (work .entry)) height (now (work .exit)) r
-        (S.turn (programIn (now (sheet .entry))) (stateOf (sizesOf (programIn (now (sheet .entry)))) s)) ⌝ }
+        (S.turn (programIn (now (sheet .entry))) (stateOf (sizesOf (programIn (now (sheet .entry)))) (decode (now (cells .entry))))) ⌝ }
 {
-    let a = survey_threads(sheet, places, plan, s);
+    let a = survey_threads(sheet, places, plan, cells);
     if !a.live {
         return Turned::Ended(a.low, a.high);
     }
@@ -183,6 +184,16 @@ pub(crate) fn turn(
     if plan.limit < a.bound {
         return Turned::Refused(Refusal::PastLimit, 0);
     }
-    let m = expand(sheet, places, plan, s, a.low, a.bound, work, height, slots);
+    let m = expand(
+        sheet,
+        places,
+        plan,
+        cells,
+        a.low,
+        a.bound,
+        work,
+        height,
+        slots,
+    );
     as_turned(m)
 }

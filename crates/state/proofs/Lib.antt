@@ -4,6 +4,7 @@ pub mod Timed
 pub mod Round
 pub mod Shape
 pub mod Stack
+pub mod Slot
 pub mod Ownership
 pub mod Room
 pub mod Initial

@@ -11,11 +11,10 @@ use Rattle.state.specs.declared.Thread.{Thread}
 use Rattle.state.specs.declared.State.{State}
 use Rattle.interval.specs.Shape.{zeroSpan}
 use Rattle.state.specs.Access.{threadAt, zeroThread}
-use Rattle.state.specs.Cells.{encode, decode, stored, slotOf, Sound, threadCells, threadFrom}
-use Rattle.state.proofs.Writing.{encode-length}
+use Rattle.state.specs.Cells.{encode, decode, withSlot, slotOf, Sound, threadCells, threadFrom}
 
 -- n elements of l from the i-th on
-items : {A : Type 0} → List A → A → ℕ → ℕ → List A
+unfoldable pub items : {A : Type 0} → List A → A → ℕ → ℕ → List A
 items l d i zero = []
 items l d i (suc n) = getD l i d ∷ items l d (suc i) n
 
@@ -24,14 +23,14 @@ unfolding items
 items-past x l d i zero = refl
 items-past {A} x l d i (suc n) = ap (λ (r : List A). getD l i d ∷ r) (items-past x l d (suc i) n)
 
-all-items : {A : Type 0} (l : List A) (d : A) (n : ℕ) → length l ≡ n → items l d 0 n ≡ l
+pub all-items : {A : Type 0} (l : List A) (d : A) (n : ℕ) → length l ≡ n → items l d 0 n ≡ l
 unfolding items
 all-items [] d zero e = refl
 all-items [] d (suc n) e = absurd (omega arith)
 all-items (x ∷ l) d zero e = absurd (omega arith)
 all-items {A} (x ∷ l) d (suc n) e = ap (λ (r : List A). x ∷ r) (items-past x l d 0 n ∙ all-items l d n (omega arith))
 
-byte-back : (n : ℕ) → n ≤ 255 → min n 255 ≡ n
+pub byte-back : (n : ℕ) → n ≤ 255 → min n 255 ≡ n
 byte-back n h = omega arith
 
 thread-back : (th : Thread) → length (th .regs) ≡ 8 → th .at ≤ 255 → threadFrom (threadCells th) 0 ≡ th
@@ -55,20 +54,20 @@ slot-low p q j h =
     let t : 100 ≤ length (drop (j * 100) p) = simp length-drop (omega arith) in
     rw (drop-append-le (j * 100) p q r, take-append-le 100 (drop (j * 100) p) q t)
 
--- the slot that was stored, and the others
-module _ (b : List ℤ) (k : ℕ) (s : State) (room : k * 100 + 100 ≤ length b) where
-  pub stored-length : length (stored b k s) ≡ length b
-  stored-length = simp (length-append, length-take, length-drop, encode-length) (omega arith)
+-- the slot whose numbers were replaced, and those below it
+module _ (b : List ℤ) (k : ℕ) (cells : List ℤ) (hundred : length cells ≡ 100) (room : k * 100 + 100 ≤ length b) where
+  pub with-slot-length : length (withSlot b k cells) ≡ length b
+  with-slot-length = simp (length-append, length-take, length-drop) (omega arith)
 
-  pub slot-same : slotOf (stored b k s) k ≡ encode s
+  pub slot-same : slotOf (withSlot b k cells) k ≡ cells
   slot-same =
       let e : length (take (k * 100) b) ≡ k * 100 = length-take-le (k * 100) b (omega arith) in
-      ap (take 100) (drop-at (take (k * 100) b) (encode s ++ drop (k * 100 + 100) b) (k * 100) e)
-      ∙ take-at (encode s) (drop (k * 100 + 100) b) 100 (encode-length s)
+      ap (take 100) (drop-at (take (k * 100) b) (cells ++ drop (k * 100 + 100) b) (k * 100) e)
+      ∙ take-at cells (drop (k * 100 + 100) b) 100 hundred
 
-  pub slot-below : (j : ℕ) → j < k → slotOf (stored b k s) j ≡ slotOf b j
+  pub slot-below : (j : ℕ) → j < k → slotOf (withSlot b k cells) j ≡ slotOf b j
   slot-below j h =
       let e : length (take (k * 100) b) ≡ k * 100 = length-take-le (k * 100) b (omega arith) in
-      slot-low (take (k * 100) b) (encode s ++ drop (k * 100 + 100) b) j (omega arith)
+      slot-low (take (k * 100) b) (cells ++ drop (k * 100 + 100) b) j (omega arith)
       ∙ sym (slot-low (take (k * 100) b) (drop (k * 100) b) j (omega arith))
       ∙ ap (λ (l : List ℤ). slotOf l j) (take-append-drop (k * 100) b)

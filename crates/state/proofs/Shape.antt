@@ -14,10 +14,10 @@ use Rattle.rules.specs.Search as S
 use Rattle.interval.specs.declared.Span.{Span}
 use Rattle.interval.specs.Shape.{intervalOf, zeroSpan}
 use Rattle.expression.specs.Evaluation.{regsOf}
-use Rattle.state.specs.declared.Time.{Time}
+use Rattle.state.specs.declared.Clock.{Clock}
 use Rattle.state.specs.declared.Thread.{Thread}
 use Rattle.state.specs.declared.State.{State}
-use Rattle.state.specs.Access.{zeroThread, threadAt, varAt, ownerAt, withThread, withVar, withOwner, withReg, withRegs, movedTo}
+use Rattle.state.specs.Access.{zeroThread, threadAt, varAt, ownerAt, withThread, withVar, withOwner}
 use Rattle.state.specs.Shape.{ownerOf, threadOf, threadsOf, ownersOf, Sizes, sizesOf, stateOf, statesOf}
 
 -- ---- the first n of a list, each as f takes it
@@ -105,17 +105,6 @@ pub threads-from-end : (ns : List ℕ) (xs : List Thread) (t : ℕ) → length n
 unfolding threadsOf
 threads-from-end ns xs t h = rw (drop-of-length-le ns h)
 
--- a thread with a part replaced
-pub moved-thread : (n : ℕ) (th : Thread) (at : ℕ) (low high : Time) → threadOf n (movedTo th at low high) ≡ record { at = at; low = low .0; high = high .0; regs = regsOf n (th .regs) }
-moved-thread n th at low high = refl
-
-pub with-regs-thread : (n : ℕ) (th : Thread) (regs : List Span) → threadOf n (withRegs th regs) ≡ record { at = th .at; low = th .clock .low .0; high = th .clock .high .0; regs = regsOf n regs }
-with-regs-thread n th regs = refl
-
-pub with-reg-thread : (n : ℕ) (th : Thread) (i : ℕ) (v : Span)
-    → threadOf n (withReg th i v) ≡ record { at = th .at; low = th .clock .low .0; high = th .clock .high .0; regs = set (regsOf n (th .regs)) i (intervalOf v) }
-with-reg-thread n th i v = λ j. record { at = th .at; low = th .clock .low .0; high = th .clock .high .0; regs = regs-set n (th .regs) i v j }
-
 -- ---- states
 
 pub with-thread-state : (z : Sizes) (s : State) (t : ℕ) (th : Thread)
@@ -166,24 +155,28 @@ module _ (z : Sizes) (s : State) where
 
 -- ---- an event: a thread moved, and with it a variable or an owner
 
-module _ (z : Sizes) (s : State) (t : ℕ) (th : Thread) (at : ℕ) (low high : Time) where
-  pub moved-state : stateOf z (withThread s t (movedTo th at low high))
-      ≡ S.moved (stateOf z s) t at (low .0) (high .0) (regsOf (getD (z .regs) t 0) (th .regs)) (stateOf z s .vars) (stateOf z s .owners)
-  unfolding S.moved
-  moved-state = with-thread-state z s t (movedTo th at low high)
+module _ (z : Sizes) (s : State) (t at : ℕ) (clock : Clock) (regs : List Span) where
+  -- the thread after its event
+  abbrev stands : Thread
+  stands = record { at = at; clock = clock; regs = regs }
 
-  pub moved-var-state : (v : ℕ) (span : Span) → stateOf z (withVar (withThread s t (movedTo th at low high)) v span)
-      ≡ S.moved (stateOf z s) t at (low .0) (high .0) (regsOf (getD (z .regs) t 0) (th .regs)) (set (stateOf z s .vars) v (intervalOf span)) (stateOf z s .owners)
+  pub moved-state : stateOf z (withThread s t stands)
+      ≡ S.moved (stateOf z s) t at (clock .low .0) (clock .high .0) (regsOf (getD (z .regs) t 0) regs) (stateOf z s .vars) (stateOf z s .owners)
+  unfolding S.moved
+  moved-state = with-thread-state z s t stands
+
+  pub moved-var-state : (v : ℕ) (span : Span) → stateOf z (withVar (withThread s t stands) v span)
+      ≡ S.moved (stateOf z s) t at (clock .low .0) (clock .high .0) (regsOf (getD (z .regs) t 0) regs) (set (stateOf z s .vars) v (intervalOf span)) (stateOf z s .owners)
   unfolding S.moved
   moved-var-state v span =
-      with-var-state z (withThread s t (movedTo th at low high)) v span
+      with-var-state z (withThread s t stands) v span
       ∙ ap (λ (x : S.State). record { threads = x .threads; vars = set (x .vars) v (intervalOf span); owners = x .owners }) moved-state
 
-  pub moved-owner-state : (l o : ℕ) → stateOf z (withOwner (withThread s t (movedTo th at low high)) l o)
-      ≡ S.moved (stateOf z s) t at (low .0) (high .0) (regsOf (getD (z .regs) t 0) (th .regs)) (stateOf z s .vars) (set (stateOf z s .owners) l (ownerOf o))
+  pub moved-owner-state : (l o : ℕ) → stateOf z (withOwner (withThread s t stands) l o)
+      ≡ S.moved (stateOf z s) t at (clock .low .0) (clock .high .0) (regsOf (getD (z .regs) t 0) regs) (stateOf z s .vars) (set (stateOf z s .owners) l (ownerOf o))
   unfolding S.moved
   moved-owner-state l o =
-      with-owner-state z (withThread s t (movedTo th at low high)) l o
+      with-owner-state z (withThread s t stands) l o
       ∙ ap (λ (x : S.State). record { threads = x .threads; vars = x .vars; owners = set (x .owners) l (ownerOf o) }) moved-state
 
 -- ---- lists of states

@@ -1,4 +1,4 @@
--- The stack of states that the buffer holds: storing is a push, and taking the top one changes no number.
+-- The stack of states that the buffer holds: writing at the top is a push, and taking the top one changes no number.
 use mathlib.Core.Path.{_≡_, refl, sym, ap, _∙_}
 use mathlib.Core.List.{List, _∷_}
 use Prim.Native.Nat.{ℕ, zero, suc, _+_, _*_, _-_, _<_, _≤_}
@@ -9,9 +9,10 @@ use lib.IntN.{ℤ}
 use lib.ListN.{length}
 use Rattle.rules.specs.Constants.{numbersPerState}
 use Rattle.state.specs.declared.State.{State}
-use Rattle.state.specs.Cells.{decode, stored, slotOf, Sound, stackOf}
+use Rattle.state.specs.Cells.{encode, decode, withSlot, stored, slotOf, Sound, stackOf}
 use Rattle.state.specs.Shape.{Sizes, stateOf, statesOf}
 use Rattle.state.proofs.Shape.{states-cons}
+use Rattle.state.proofs.Writing.{encode-length}
 use Rattle.state.proofs.Round.{decode-encode, slot-same, slot-below}
 
 pub stack-length : (n : ℕ) (b : List ℤ) → length (stackOf n b) ≡ n
@@ -19,17 +20,17 @@ unfolding stackOf
 stack-length zero b = refl
 stack-length (suc n) b = ap suc (stack-length n b)
 
--- the slots below the one that is stored are as they were
-pub stack-below : (b : List ℤ) (k : ℕ) (s : State) → k * numbersPerState + numbersPerState ≤ length b → (n : ℕ) → n ≤ k → stackOf n (stored b k s) ≡ stackOf n b
-unfolding stackOf
-stack-below b k s room zero h = refl
-stack-below b k s room (suc n) h = λ i. decode (slot-below b k s room n h i) ∷ stack-below b k s room n (omega arith) i
+module _ (b : List ℤ) (k : ℕ) (cells : List ℤ) (hundred : length cells ≡ numbersPerState) (room : k * numbersPerState + numbersPerState ≤ length b) where
+  -- the slots below the one that is written are as they were
+  stack-below : (n : ℕ) → n ≤ k → stackOf n (withSlot b k cells) ≡ stackOf n b
+  unfolding stackOf
+  stack-below zero h = refl
+  stack-below (suc n) h = λ i. decode (slot-below b k cells hundred room n h i) ∷ stack-below n (omega arith) i
 
--- a store at the top is a push
-pub push : (b : List ℤ) (k : ℕ) (s : State) → k * numbersPerState + numbersPerState ≤ length b → Sound s → stackOf (k + 1) (stored b k s) ≡ s ∷ stackOf k b
-unfolding stackOf
-push b k s room w =
-    rw add-one (λ i. (ap decode (slot-same b k s room) ∙ decode-encode s w) i ∷ stack-below b k s room k (le-refl k) i)
+  -- numbers written at the top are a push
+  pub push : stackOf (k + 1) (withSlot b k cells) ≡ decode cells ∷ stackOf k b
+  unfolding stackOf
+  push = rw add-one (λ i. decode (slot-same b k cells hundred room i) ∷ stack-below k (le-refl k) i)
 
 pub top : (b : List ℤ) (n : ℕ) → 0 < n → stackOf n b ≡ decode (slotOf b (n - 1)) ∷ stackOf (n - 1) b
 unfolding stackOf
@@ -40,7 +41,8 @@ top b (suc n) h = let e : suc n - 1 ≡ n = omega arith in rw e
 
 pub push-states : (z : Sizes) (b : List ℤ) (k : ℕ) (s : State) → k * numbersPerState + numbersPerState ≤ length b → Sound s
     → statesOf z (stackOf (k + 1) (stored b k s)) ≡ stateOf z s ∷ statesOf z (stackOf k b)
-push-states z b k s room w = ap (statesOf z) (push b k s room w) ∙ states-cons z s (stackOf k b)
+push-states z b k s room w =
+    ap (statesOf z) (push b k (encode s) (encode-length s) room ∙ ap (λ (x : State). x ∷ stackOf k b) (decode-encode s w)) ∙ states-cons z s (stackOf k b)
 
 pub top-states : (z : Sizes) (b : List ℤ) (n : ℕ) (s : State) → 0 < n → s ≡ decode (slotOf b (n - 1)) → statesOf z (stackOf n b) ≡ stateOf z s ∷ statesOf z (stackOf (n - 1) b)
 top-states z b n s h e =

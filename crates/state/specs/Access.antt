@@ -4,7 +4,6 @@ use mathlib.Core.List.{List, []}
 use lib.ListN.{getD, set}
 use Rattle.interval.specs.declared.Span.{Span}
 use Rattle.interval.specs.Shape.{zeroSpan}
-use Rattle.state.specs.declared.Time.{Time}
 use Rattle.state.specs.declared.Clock.{Clock}
 use Rattle.state.specs.declared.Thread.{Thread}
 use Rattle.state.specs.declared.State.{State}
@@ -38,12 +37,3 @@ withVar s v span = record { threads = s .threads; vars = set (s .vars) v span; o
 
 abbrev pub withOwner : State → ℕ → ℕ → State
 withOwner s l o = record { threads = s .threads; vars = s .vars; owners = set (s .owners) l o }
-
-abbrev pub withRegs : Thread → List Span → Thread
-withRegs th regs = record { at = th .at; clock = th .clock; regs = regs }
-
-abbrev pub withReg : Thread → ℕ → Span → Thread
-withReg th i span = withRegs th (set (th .regs) i span)
-
-abbrev pub movedTo : Thread → ℕ → Time → Time → Thread
-movedTo th at low high = record { at = at; clock = record { low = low; high = high }; regs = th .regs }

@@ -103,9 +103,12 @@ decode b = record {
 abbrev pub slotOf : List ℤ → ℕ → List ℤ
 slotOf b k = take numbersPerState (drop (k * numbersPerState) b)
 
--- the buffer with a slot's numbers replaced by the state's
+-- the buffer with a slot's numbers replaced, and with a state's in it
+abbrev pub withSlot : List ℤ → ℕ → List ℤ → List ℤ
+withSlot b k cells = take (k * numbersPerState) b ++ (cells ++ drop (k * numbersPerState + numbersPerState) b)
+
 abbrev pub stored : List ℤ → ℕ → State → List ℤ
-stored b k s = take (k * numbersPerState) b ++ (encode s ++ drop (k * numbersPerState + numbersPerState) b)
+stored b k s = withSlot b k (encode s)
 
 -- the stack of n states that the buffer holds, the top first
 unfoldable pub stackOf : ℕ → List ℤ → List State

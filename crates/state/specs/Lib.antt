@@ -2,4 +2,5 @@
 pub mod Access
 pub mod Cells
 pub mod Shape
+pub mod Move
 pub mod Start

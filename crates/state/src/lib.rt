@@ -3,12 +3,26 @@
 use interval::Span;
 
 pub mod cells; // the numbers of a state, and the stack of states in the work buffer
+pub mod parts; // the parts of a state, read from its numbers
+pub mod moves; // the state that an event makes, in its slot
 pub mod starting; // the state in which a search starts
 
 pub use cells::NUMBERS_PER_STATE;
 pub use cells::clear;
-pub use cells::load;
 pub use cells::store;
+pub use moves::Move;
+pub use moves::put_moved;
+pub use moves::put_owner;
+pub use moves::put_register;
+pub use moves::put_registers;
+pub use moves::put_variable;
+pub use parts::at_of;
+pub use parts::clock_of;
+pub use parts::owner_of;
+pub use parts::register_of;
+pub use parts::registers_of;
+pub use parts::take_slot;
+pub use parts::variable_of;
 pub use starting::start;
 
 // A tick of a clock.

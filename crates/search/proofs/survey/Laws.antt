@@ -128,7 +128,7 @@ module _ (g : Program) (s : State) (few : length (g .threads) ≤ mostThreads) (
 
   from-more : (t : ℕ) → t < length (g .threads) → (sheet : Bytes) (f : Fetched) (a : Survey)
       → Fetches sheet (namesOf g t) (threadAt s t .at) (statementIn g t (threadAt s t .at)) f → SurveyedFrom g s (suc t) a
-      → SurveyedFrom g s t (addThread a t (threadAt s t) f (s .owners))
+      → SurveyedFrom g s t (addThread a t (threadAt s t .clock) f (s .owners))
   unfolding liveFrom statementAt addThread
   from-more t h sheet f a w i =
       let z = sizesOf g in
@@ -140,7 +140,7 @@ module _ (g : Program) (s : State) (few : length (g .threads) ≤ mostThreads) (
       let rest = drop (suc t) xs in
       let vs = liveAfter g (stateOf z s) (suc t) in
       let v : Live = record { thread = t; here = y; statement = st } in
-      let b = addThread a t x f (s .owners) in
+      let b = addThread a t (x .clock) f (s .owners) in
       let sizes = sizes-threads g in
       let in-xs : t < length xs = omega (arith, state-threads) in
       let in-sizes : t < length (z .regs) = omega arith in
@@ -174,7 +174,7 @@ module _ {sheet : Bytes} {p : Plan} {places : List ℕ} {s : State} (w : Ready s
 
   pub survey-again : {t : ℕ} {f : Fetched} {a b : Survey} → Surveyed (programIn sheet) s t a → 0 < t
       → Fetches sheet (namesOf (programIn sheet) (t - 1)) (threadAt s (t - 1) .at) (statementIn (programIn sheet) (t - 1) (threadAt s (t - 1) .at)) f
-      → b ≡ addThread a (t - 1) (threadAt s (t - 1)) f (s .owners)
+      → b ≡ addThread a (t - 1) (threadAt s (t - 1) .clock) f (s .owners)
       → Surveyed (programIn sheet) s (t - 1) b
   survey-again {t} {f} {a} i h d e =
       let inside = i .inside in

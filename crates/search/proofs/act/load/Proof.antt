@@ -1,39 +1,45 @@
--- `search::act::load` meets its contract. Assumes nothing.
-use mathlib.Core.Path.{refl, sym, ap}
-use Prim.Native.Nat.{suc}
+use mathlib.Core.Path.{_≡_, refl, sym, ap, _∙_}
+use Prim.Native.Nat.{ℕ, suc, _≤_}
 use lib.ListN.{getD, set}
-use Rattle.rules.specs.Interval.{Interval}
-use Rattle.rules.specs.Search.{effect}
+use Rattle.state.specs.Cells.{decode}
+use Rattle.state.specs.Access.{threadAt, withVar, withOwner}
 use Rattle.expression.specs.Evaluation.{regsOf}
+use Rattle.search.specs.Act.{movedBy, movedWith}
+use Rattle.rules.specs.Search.{effect}
+use Rattle.rules.specs.Interval.{Interval}
+use Rattle.interval.specs.Shape.{intervalOf}
 use Rattle.state.proofs.Shape.{state-var}
-use Rattle.search.specs.Act.{movedBy}
 use Rattle.search.proofs.ActLaws.{pushed-as}
 use borrow.Author.Needs.{needs}
 use Rattle.search.proofs.act.load.Statement.{statement}
 use Rattle.search.proofs.act.load.Tie as tie
+use Rattle.search.proofs.act.load.Reads as reads
+use Rattle.search.proofs.act.load.Lts as lts
+use Rattle.search.proofs.act.write_register.Reads as write-register-reads
+use Rattle.state.proofs.variable_of.Reads as variable-of-reads
 
-mul-i : tie.Need-mul-i
-mul-i c = search needs
+-- src/act.rt:338:9
+variable-of-requires : tie.Need-variable-of-requires
+variable-of-requires c κs = c .pre .1 .1 .1
 
-element-copy-out-i : tie.Need-element-copy-out-i
-element-copy-out-i c = search needs
-
+-- src/act.rt:339:5
 write-register-requires : tie.Need-write-register-requires
-write-register-requires c κs = search needs
+write-register-requires c κs = (c .before .before .pre .0, (c .before .before .pre .1 .0, c .before .before .pre .1 .1 .0))
 
+-- src/act.rt:324:1
 same-length : tie.Need-same-length
 same-length c = search needs
 
+-- src/act.rt:324:1
 returns : tie.Need-returns
 unfolding effect
 returns c = let arg = c .before .before .before .before .args in
     λ z h. (
       c .before .write-register .result,
       refl,
-      pushed-as (ap (λ (i : Interval). movedBy z (arg .t1) (arg .v) (suc (arg .x .at)) (set (regsOf (getD (z .regs) (arg .v .thread) 0) (arg .x .regs)) (arg .r) i))
-          (sym (state-var z (arg .t1) (arg .k) h))) (c .before .write-register .ensures z),
+      pushed-as (ap (λ (i : Interval). movedBy z (decode (arg .cells .now)) (arg .v) (suc ((threadAt (decode (arg .cells .now)) (arg .v .thread)) .at)) (set (regsOf (getD (z .regs) (arg .v .thread) 0) ((threadAt (decode (arg .cells .now)) (arg .v .thread)) .regs)) (arg .r) i))
+          (ap intervalOf (c .before .before .before .variable-of .ensures) ∙ sym (state-var z (decode (arg .cells .now)) (arg .k) h))) (c .before .write-register .ensures z),
     )
 
 pub load-spec : {M : Type 1} → statement M
-load-spec =
-    tie.close (tie.spec mul-i element-copy-out-i write-register-requires same-length returns)
+load-spec = tie.close (tie.spec variable-of-requires write-register-requires same-length returns)

@@ -1,71 +1,84 @@
--- `search::act::lock` meets its contract. Assumes nothing.
-use mathlib.Core.Path.{refl, sym, _∙_}
+use mathlib.Core.Path.{_≡_, refl, sym, ap, _∙_}
+use native.Mathlib.Omega.{arith}
+use Prim.Native.Nat.{ℕ, suc, _≤_}
+use Rattle.state.specs.Cells.{decode}
+use Rattle.search.proofs.ActLaws.{pushed-as, locks, waits-on}
 use Rattle.rules.specs.Search.{effect}
-use Rattle.state.proofs.Timed.{with-owner-timed}
-use Rattle.search.proofs.ActLaws.{pushed-as, moved-timed, locks, waits-on}
+use Rattle.rules.specs.Lock.{mayTake, afterUnlock}
+use Rattle.state.specs.Shape.{ownerOf}
 use borrow.Author.Needs.{needs}
 use Rattle.search.proofs.act.lock.Statement.{statement}
 use Rattle.search.proofs.act.lock.Tie as tie
+use Rattle.search.proofs.act.lock.Reads as reads
+use Rattle.search.proofs.act.lock.Lts as lts
+use Rattle.search.proofs.act.may_take.Reads as may-take-reads
+use Rattle.search.proofs.act.next.Reads as next-reads
+use Rattle.search.proofs.act.owner.Reads as owner-reads
+use Rattle.search.proofs.act.push_moved.Reads as push-moved-reads
+use Rattle.search.proofs.act.push_owner.Reads as push-owner-reads
+use Rattle.state.proofs.at_of.Reads as at-of-reads
+use Rattle.state.proofs.owner_of.Reads as owner-of-reads
 
-element-copy-out-o : tie.Need-element-copy-out-o
-element-copy-out-o c = search needs
+-- src/act.rt:404:9
+at-of-requires : tie.Need-at-of-requires
+at-of-requires c κs = c .pre .0 .ticks .thread
 
+-- src/act.rt:405:20
+owner-of-requires : tie.Need-owner-of-requires
+owner-of-requires c κs = c .before .pre .1 .1
+
+-- src/act.rt:405:8
 may-take-requires : tie.Need-may-take-requires
-may-take-requires c κs = search needs
+may-take-requires c κs = c .before .before .pre .0 .ticks .thread
 
-owner-requires : tie.Need-owner-requires
-owner-requires c κs = search needs
-
+-- src/act.rt:406:37
 next-requires : tie.Need-next-requires
-next-requires c κs = search needs
+next-requires c κs = omega (arith, c .before .before .before .at-of .ensures, c .before .before .before .before .pre .1 .0)
 
-moved-requires : tie.Need-moved-requires
-moved-requires c κs = search needs
+-- src/act.rt:406:50
+owner-requires : tie.Need-owner-requires
+owner-requires c κs = c .before .before .before .before .before .pre .0 .ticks .thread
 
-element-write-u : tie.Need-element-write-u
-element-write-u c = search needs
+-- src/act.rt:406:9
+push-owner-requires : tie.Need-push-owner-requires
+push-owner-requires c κs = (c .before .before .before .before .before .before .before .pre .0, c .before .before .before .before .before .before .before .pre .1 .1)
 
-push-requires : tie.Need-push-requires
-push-requires c κs = let arg = c .before .before .before .before .before .before .before .before .args in
-    let a = c .before .before .before .before .before .before .before .before .pre .0 in (a .room, (a .high, with-owner-timed (c .before .moved .result) (arg .l) (c .before .before .before .owner .result) (moved-timed (arg .t1) (arg .v) (c .before .before .next .result) (arg .x .regs) (c .before .moved .result) (c .before .moved .ensures) a)))
-
+-- src/act.rt:406:9
 same-length : tie.Need-same-length
 same-length c = search needs
 
+-- src/act.rt:406:9
 returns : tie.Need-returns
 unfolding effect
-returns c = let arg = c .before .before .before .before .before .before .before .before .before .before .args in
-    λ z h. (c .before .push .result, refl, pushed-as (locks z (arg .t1) (arg .v) (arg .x) (arg .l) h (c .before .before .before .moved .result) (c .before .before .before .before .next .result) (c .before .before .before .moved .ensures) (c .before .before .before .before .before .owner .result) (c .before .before .before .before .next .ensures) (c .before .before .before .before .before .owner .ensures) (sym (c .before .before .before .before .before .before .before .may-take .ensures) ∙ c .before .before .before .before .before .before .if1 .taken)) (c .before .push .ensures z))
+returns c = let arg = c .before .before .before .before .before .before .before .before .before .args in
+    λ z h. (c .before .push-owner .result, refl, pushed-as (locks z (decode (arg .cells .now)) (arg .v) (arg .l) h (c .before .before .before .before .next .result) (c .before .before .before .owner .result) (c .before .before .before .before .next .ensures ∙ ap suc (c .before .before .before .before .before .before .before .before .at-of .ensures)) (c .before .before .before .owner .ensures) (sym (ap (λ (o : ℕ). mayTake (arg .v .thread) (ownerOf o)) (c .before .before .before .before .before .before .before .owner-of .ensures)) ∙ sym (c .before .before .before .before .before .before .may-take .ensures) ∙ c .before .before .before .before .before .if1 .taken)) (c .before .push-owner .ensures z))
 
-moved-requires-2 : tie.Need-moved-requires-2
-moved-requires-2 c κs = search needs
+-- src/act.rt:408:5
+push-moved-requires : tie.Need-push-moved-requires
+push-moved-requires c κs = c .before .before .before .before .before .pre .0
 
-push-requires-2 : tie.Need-push-requires-2
-push-requires-2 c κs = let arg = c .before .before .before .before .before .before .args in
-    let a = c .before .before .before .before .before .before .pre .0 in (a .room, (a .high, moved-timed (arg .t1) (arg .v) (arg .x .at) (arg .x .regs) (c .moved2 .result) (c .moved2 .ensures) a))
-
+-- src/act.rt:390:1
 same-length-2 : tie.Need-same-length-2
 same-length-2 c = search needs
 
+-- src/act.rt:390:1
 returns-2 : tie.Need-returns-2
 unfolding effect
-returns-2 c = let arg = c .before .before .before .before .before .before .before .before .args in
-    λ z h. (c .before .push2 .result, refl, pushed-as (waits-on z (arg .t1) (arg .v) (arg .x) (arg .l) h (c .before .before .moved2 .result) (arg .x .at) (c .before .before .moved2 .ensures) refl (sym (c .before .before .before .before .before .may-take .ensures) ∙ c .before .before .before .before .if1 .left)) (c .before .push2 .ensures z))
+returns-2 c = let arg = c .before .before .before .before .before .before .before .args in
+    λ z h. (c .before .push-moved .result, refl, pushed-as (waits-on z (decode (arg .cells .now)) (arg .v) (arg .l) h (c .before .before .before .before .before .before .at-of .result) (c .before .before .before .before .before .before .at-of .ensures) (sym (ap (λ (o : ℕ). mayTake (arg .v .thread) (ownerOf o)) (c .before .before .before .before .before .owner-of .ensures)) ∙ sym (c .before .before .before .before .may-take .ensures) ∙ c .before .before .before .if1 .left)) (c .before .push-moved .ensures z))
 
 pub lock-spec : {M : Type 1} → statement M
 lock-spec =
     tie.close
     (tie.spec
-    element-copy-out-o
+    at-of-requires
+    owner-of-requires
     may-take-requires
-    owner-requires
     next-requires
-    moved-requires
-    element-write-u
-    push-requires
+    owner-requires
+    push-owner-requires
     same-length
     returns
-    moved-requires-2
-    push-requires-2
+    push-moved-requires
     same-length-2
     returns-2)

@@ -1,31 +1,42 @@
--- `search::act::skip` meets its contract. Assumes nothing.
-use mathlib.Core.Path.{ap, _∙_}
-use Prim.Native.Nat.{ℕ}
-use lib.ListN.{getD}
+use mathlib.Core.Path.{_≡_, refl, sym, ap, _∙_}
+use native.Mathlib.Omega.{arith}
+use Prim.Native.Nat.{ℕ, suc, _≤_}
+use lib.ListN.{getD, set}
+use Rattle.state.specs.Cells.{decode}
+use Rattle.state.specs.Access.{threadAt, withVar, withOwner}
 use Rattle.expression.specs.Evaluation.{regsOf}
-use Rattle.search.specs.Act.{movedBy}
-use Rattle.search.proofs.ActLaws.{pushed-as, moved-timed, moved-is}
+use Rattle.search.specs.Act.{movedBy, movedWith}
+use Rattle.search.proofs.ActLaws.{pushed-as}
 use borrow.Author.Needs.{needs}
 use Rattle.search.proofs.act.skip.Statement.{statement}
 use Rattle.search.proofs.act.skip.Tie as tie
+use Rattle.search.proofs.act.skip.Reads as reads
+use Rattle.search.proofs.act.skip.Lts as lts
+use Rattle.search.proofs.act.next.Reads as next-reads
+use Rattle.search.proofs.act.push_moved.Reads as push-moved-reads
+use Rattle.state.proofs.at_of.Reads as at-of-reads
 
+-- src/act.rt:196:19
+at-of-requires : tie.Need-at-of-requires
+at-of-requires c κs = c .pre .0 .ticks .thread
+
+-- src/act.rt:196:9
 next-requires : tie.Need-next-requires
-next-requires c κs = search needs
+next-requires c κs = omega (arith, c .at-of .ensures, c .before .pre .1)
 
-moved-requires : tie.Need-moved-requires
-moved-requires c κs = search needs
+-- src/act.rt:197:5
+push-moved-requires : tie.Need-push-moved-requires
+push-moved-requires c κs = c .before .before .before .pre .0
 
-push-requires : tie.Need-push-requires
-push-requires c κs = let arg = c .before .before .before .before .args in
-    let a = c .before .before .before .before .pre .0 in (a .room, (a .high, moved-timed (arg .s) (arg .v) (c .before .before .next .result) (arg .x .regs) (c .moved .result) (c .moved .ensures) a))
-
+-- src/act.rt:191:1
 same-length : tie.Need-same-length
 same-length c = search needs
 
+-- src/act.rt:191:1
 returns : tie.Need-returns
-returns c = let arg = c .before .before .before .before .before .before .args in
-    λ z. pushed-as (moved-is (arg .s) (arg .v) (c .before .before .before .before .next .result) (arg .x .regs) (c .before .before .moved .result) (c .before .before .moved .ensures) z
-    ∙ ap (λ (at : ℕ). movedBy z (arg .s) (arg .v) at (regsOf (getD (z .regs) (arg .v .thread) 0) (arg .x .regs))) (c .before .before .before .before .next .ensures)) (c .before .push .ensures z)
+returns c = let arg = c .before .before .before .before .before .args in
+    λ z. pushed-as (ap (λ (at : ℕ). movedBy z (decode (arg .cells .now)) (arg .v) at (regsOf (getD (z .regs) (arg .v .thread) 0) ((threadAt (decode (arg .cells .now)) (arg .v .thread)) .regs))) (c .before .before .before .next .ensures ∙ ap suc (c .before .before .before .before .at-of .ensures))) (c .before .push-moved .ensures z)
 
 pub skip-spec : {M : Type 1} → statement M
-skip-spec = tie.close (tie.spec next-requires moved-requires push-requires same-length returns)
+skip-spec =
+    tie.close (tie.spec at-of-requires next-requires push-moved-requires same-length returns)

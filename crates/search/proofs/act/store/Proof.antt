@@ -1,64 +1,63 @@
--- `search::act::store` meets its contract. Assumes nothing.
-use mathlib.Core.Path.{refl, sym, _∙_}
+use mathlib.Core.Path.{_≡_, refl, sym, ap, _∙_}
+use native.Mathlib.Omega.{arith}
+use Prim.Native.Nat.{ℕ, suc, _≤_}
 use lib.ListN.{getD, set}
-use Rattle.rules.specs.Search as S
-use Rattle.rules.specs.Search.{effect}
-use Rattle.expression.specs.Evaluation.{regsOf}
-use Rattle.state.specs.Access.{regAt}
+use Rattle.state.specs.Cells.{decode}
+use Rattle.state.specs.Access.{threadAt, withVar, withOwner}
 use Rattle.state.specs.Shape.{stateOf}
+use Rattle.search.specs.Act.{movedBy, movedWith}
+use Rattle.rules.specs.Search.{effect}
+use Rattle.interval.specs.Shape.{intervalOf}
 use Rattle.state.proofs.Shape.{regs-get}
-use Rattle.state.proofs.Timed.{with-var-timed}
-use Rattle.search.proofs.ActLaws.{pushed-as, moved-timed, moved-var-is}
+use Rattle.search.proofs.ActLaws.{pushed-as}
 use borrow.Author.Needs.{needs}
 use Rattle.search.proofs.act.store.Statement.{statement}
 use Rattle.search.proofs.act.store.Tie as tie
+use Rattle.search.proofs.act.store.Reads as reads
+use Rattle.search.proofs.act.store.Lts as lts
+use Rattle.search.proofs.act.next.Reads as next-reads
+use Rattle.search.proofs.act.push_variable.Reads as push-variable-reads
+use Rattle.state.proofs.at_of.Reads as at-of-reads
+use Rattle.state.proofs.register_of.Reads as register-of-reads
 
-mul-i : tie.Need-mul-i
-mul-i c = search needs
+-- src/act.rt:319:9
+register-of-requires : tie.Need-register-of-requires
+register-of-requires c κs = (c .pre .0 .ticks .thread, c .pre .1 .1 .0)
 
-array-copy-out-i : tie.Need-array-copy-out-i
-array-copy-out-i c = search needs
+-- src/act.rt:320:19
+at-of-requires : tie.Need-at-of-requires
+at-of-requires c κs = c .before .pre .0 .ticks .thread
 
+-- src/act.rt:320:9
 next-requires : tie.Need-next-requires
-next-requires c κs = search needs
+next-requires c κs = omega (arith, c .at-of .ensures, c .before .before .pre .1 .0)
 
-moved-requires : tie.Need-moved-requires
-moved-requires c κs = search needs
+-- src/act.rt:321:5
+push-variable-requires : tie.Need-push-variable-requires
+push-variable-requires c κs = (c .before .before .before .before .pre .0, c .before .before .before .before .pre .1 .1 .1)
 
-mul-i-2 : tie.Need-mul-i-2
-mul-i-2 c = search needs
-
-element-set-from-i : tie.Need-element-set-from-i
-element-set-from-i c = search needs
-
-push-requires : tie.Need-push-requires
-push-requires c κs = let arg = c .before .before .before .before .before .args in
-    let a = c .before .before .before .before .before .pre .0 in (a .room, (a .high, with-var-timed (c .before .moved .result) (arg .k) (regAt (arg .x) (arg .r)) (moved-timed (arg .s) (arg .v) (c .before .before .next .result) (arg .x .regs) (c .before .moved .result) (c .before .moved .ensures) a)))
-
+-- src/act.rt:304:1
 same-length : tie.Need-same-length
 same-length c = search needs
 
+-- src/act.rt:304:1
 returns : tie.Need-returns
 unfolding effect
-returns c = let arg = c .before .before .before .before .before .before .before .args in
+returns c = let arg = c .before .before .before .before .before .before .args in
     λ z h. (
-      c .before .push .result,
+      c .before .push-variable .result,
       refl,
-      pushed-as (moved-var-is (arg .s) (arg .v) (c .before .before .before .before .next .result) (arg .x .regs) (c .before .before .before .moved .result) (c .before .before .before .moved .ensures) z (arg .k) (regAt (arg .x) (arg .r))
-          ∙ (λ i. S.moved (stateOf z (arg .s)) (arg .v .thread) (c .before .before .before .before .next .ensures i) (arg .v .from .0) (arg .v .to .0) (regsOf (getD (z .regs) (arg .v .thread) 0) (arg .x .regs))
-          (set (stateOf z (arg .s) .vars) (arg .k) (sym (regs-get (getD (z .regs) (arg .v .thread) 0) (arg .x .regs) (arg .r) h) i)) (stateOf z (arg .s) .owners))) (c .before .push .ensures z),
+      pushed-as (λ j. movedWith z (decode (arg .cells .now)) (arg .v) ((c .before .before .before .next .ensures ∙ ap suc (c .before .before .before .before .at-of .ensures)) j)
+          (set (stateOf z (decode (arg .cells .now)) .vars) (arg .k) ((ap intervalOf (c .before .before .before .before .before .register-of .ensures) ∙ sym (regs-get (getD (z .regs) (arg .v .thread) 0) ((threadAt (decode (arg .cells .now)) (arg .v .thread)) .regs) (arg .r) h)) j)) (stateOf z (decode (arg .cells .now)) .owners)) (c .before .push-variable .ensures z),
     )
 
 pub store-spec : {M : Type 1} → statement M
 store-spec =
     tie.close
     (tie.spec
-    mul-i
-    array-copy-out-i
+    register-of-requires
+    at-of-requires
     next-requires
-    moved-requires
-    mul-i-2
-    element-set-from-i
-    push-requires
+    push-variable-requires
     same-length
     returns)

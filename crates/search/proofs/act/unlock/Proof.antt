@@ -1,48 +1,65 @@
--- `search::act::unlock` meets its contract. Assumes nothing.
-use mathlib.Core.Path.{refl}
+use mathlib.Core.Path.{_≡_, refl, sym, ap, _∙_}
+use native.Mathlib.Omega.{arith}
+use Prim.Native.Nat.{ℕ, suc, _≤_}
+use Rattle.state.specs.Cells.{decode}
+use Rattle.search.proofs.ActLaws.{pushed-as, unlocks}
 use Rattle.rules.specs.Search.{effect}
-use Rattle.state.proofs.Timed.{with-owner-timed}
-use Rattle.search.proofs.ActLaws.{pushed-as, moved-timed, unlocks}
+use Rattle.rules.specs.Lock.{mayTake, afterUnlock}
+use Rattle.state.specs.Shape.{ownerOf}
 use borrow.Author.Needs.{needs}
 use Rattle.search.proofs.act.unlock.Statement.{statement}
 use Rattle.search.proofs.act.unlock.Tie as tie
+use Rattle.search.proofs.act.unlock.Reads as reads
+use Rattle.search.proofs.act.unlock.Lts as lts
+use Rattle.search.proofs.act.after_unlock.Reads as after-unlock-reads
+use Rattle.search.proofs.act.next.Reads as next-reads
+use Rattle.search.proofs.act.push_owner.Reads as push-owner-reads
+use Rattle.state.proofs.at_of.Reads as at-of-reads
+use Rattle.state.proofs.owner_of.Reads as owner-of-reads
 
-element-copy-out-o : tie.Need-element-copy-out-o
-element-copy-out-o c = search needs
+-- src/act.rt:385:29
+owner-of-requires : tie.Need-owner-of-requires
+owner-of-requires c κs = c .pre .1 .1
 
+-- src/act.rt:385:9
 after-unlock-requires : tie.Need-after-unlock-requires
-after-unlock-requires c κs = search needs
+after-unlock-requires c κs = c .before .pre .0 .ticks .thread
 
+-- src/act.rt:386:19
+at-of-requires : tie.Need-at-of-requires
+at-of-requires c κs = c .before .before .pre .0 .ticks .thread
+
+-- src/act.rt:386:9
 next-requires : tie.Need-next-requires
-next-requires c κs = search needs
+next-requires c κs = omega (arith, c .at-of .ensures, c .before .before .before .pre .1 .0)
 
-moved-requires : tie.Need-moved-requires
-moved-requires c κs = search needs
+-- src/act.rt:387:5
+push-owner-requires : tie.Need-push-owner-requires
+push-owner-requires c κs = (c .before .before .before .before .before .pre .0, c .before .before .before .before .before .pre .1 .1)
 
-element-write-u : tie.Need-element-write-u
-element-write-u c = search needs
-
-push-requires : tie.Need-push-requires
-push-requires c κs = let arg = c .before .before .before .before .before .before .args in
-    let a = c .before .before .before .before .before .before .pre .0 in (a .room, (a .high, with-owner-timed (c .before .moved .result) (arg .l) (c .before .before .before .before .after-unlock .result) (moved-timed (arg .t1) (arg .v) (c .before .before .next .result) (arg .x .regs) (c .before .moved .result) (c .before .moved .ensures) a)))
-
+-- src/act.rt:371:1
 same-length : tie.Need-same-length
 same-length c = search needs
 
+-- src/act.rt:371:1
 returns : tie.Need-returns
 unfolding effect
-returns c = let arg = c .before .before .before .before .before .before .before .before .args in
-    λ z h. (c .before .push .result, refl, pushed-as (unlocks z (arg .t1) (arg .v) (arg .x) (arg .l) h (c .before .before .before .moved .result) (c .before .before .before .before .next .result) (c .before .before .before .moved .ensures) (c .before .before .before .before .before .before .after-unlock .result) (c .before .before .before .before .next .ensures) (c .before .before .before .before .before .before .after-unlock .ensures)) (c .before .push .ensures z))
+returns c = let arg = c .before .before .before .before .before .before .before .args in
+    λ z h. (
+      c .before .push-owner .result,
+      refl,
+      pushed-as (unlocks z (decode (arg .cells .now)) (arg .v) (arg .l) h (c .before .before .before .next .result) (c .before .before .before .before .before .after-unlock .result) (c .before .before .before .next .ensures ∙ ap suc (c .before .before .before .before .at-of .ensures))
+          (c .before .before .before .before .before .after-unlock .ensures ∙ ap (λ (o : ℕ). afterUnlock (arg .v .thread) (ownerOf o)) (c .before .before .before .before .before .before .owner-of .ensures))) (c .before .push-owner .ensures z),
+    )
 
 pub unlock-spec : {M : Type 1} → statement M
 unlock-spec =
     tie.close
     (tie.spec
-    element-copy-out-o
+    owner-of-requires
     after-unlock-requires
+    at-of-requires
     next-requires
-    moved-requires
-    element-write-u
-    push-requires
+    push-owner-requires
     same-length
     returns)

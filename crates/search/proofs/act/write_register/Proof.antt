@@ -1,37 +1,43 @@
--- `search::act::write_register` meets its contract. Assumes nothing.
-use mathlib.Core.Path.{ap, _∙_}
-use lib.ListN.{getD}
+use mathlib.Core.Path.{_≡_, refl, sym, ap, _∙_}
+use native.Mathlib.Omega.{arith}
+use Prim.Native.Nat.{ℕ, suc, _≤_}
+use lib.ListN.{getD, set}
+use Rattle.state.specs.Cells.{decode}
+use Rattle.state.specs.Access.{threadAt, withVar, withOwner}
 use Rattle.expression.specs.Evaluation.{regsOf}
-use Rattle.state.proofs.Shape.{regs-set}
-use Rattle.search.specs.Act.{movedBy}
-use Rattle.search.proofs.ActLaws.{pushed-as, moved-timed, moved-is}
+use Rattle.search.specs.Act.{movedBy, movedWith}
+use Rattle.interval.specs.Shape.{intervalOf}
+use Rattle.search.proofs.ActLaws.{pushed-as}
 use borrow.Author.Needs.{needs}
 use Rattle.search.proofs.act.write_register.Statement.{statement}
 use Rattle.search.proofs.act.write_register.Tie as tie
+use Rattle.search.proofs.act.write_register.Reads as reads
+use Rattle.search.proofs.act.write_register.Lts as lts
+use Rattle.search.proofs.act.next.Reads as next-reads
+use Rattle.search.proofs.act.push_register.Reads as push-register-reads
+use Rattle.state.proofs.at_of.Reads as at-of-reads
 
-set-register-requires : tie.Need-set-register-requires
-set-register-requires c κs = search needs
+-- src/act.rt:213:19
+at-of-requires : tie.Need-at-of-requires
+at-of-requires c κs = c .pre .0 .ticks .thread
 
+-- src/act.rt:213:9
 next-requires : tie.Need-next-requires
-next-requires c κs = search needs
+next-requires c κs = omega (arith, c .at-of .ensures, c .before .pre .1 .0)
 
-moved-requires : tie.Need-moved-requires
-moved-requires c κs = search needs
+-- src/act.rt:214:5
+push-register-requires : tie.Need-push-register-requires
+push-register-requires c κs = (c .before .before .before .pre .0, c .before .before .before .pre .1 .1)
 
-push-requires : tie.Need-push-requires
-push-requires c κs = let arg = c .before .before .before .before .args in
-    let a = c .before .before .before .before .pre .0 in (a .room, (a .high, moved-timed (arg .s) (arg .v) (c .before .before .next .result) (c .before .before .before .set-register .result) (c .moved .result) (c .moved .ensures) a))
-
+-- src/act.rt:200:1
 same-length : tie.Need-same-length
 same-length c = search needs
 
+-- src/act.rt:200:1
 returns : tie.Need-returns
-returns c = let arg = c .before .before .before .before .before .before .args in
-    λ z. pushed-as (moved-is (arg .s) (arg .v) (c .before .before .before .before .next .result) (c .before .before .before .before .before .set-register .result) (c .before .before .moved .result) (c .before .before .moved .ensures) z
-    ∙ (λ i. movedBy z (arg .s) (arg .v) (c .before .before .before .before .next .ensures i) ((ap (regsOf (getD (z .regs) (arg .v .thread) 0)) (c .before .before .before .before .before .set-register .ensures)
-    ∙ regs-set (getD (z .regs) (arg .v .thread) 0) (arg .x .regs) (arg .r) (arg .i)) i))) (c .before .push .ensures z)
+returns c = let arg = c .before .before .before .before .before .args in
+    λ z. pushed-as (ap (λ (at : ℕ). movedBy z (decode (arg .cells .now)) (arg .v) at (set (regsOf (getD (z .regs) (arg .v .thread) 0) ((threadAt (decode (arg .cells .now)) (arg .v .thread)) .regs)) (arg .r) (intervalOf (arg .i)))) (c .before .before .before .next .ensures ∙ ap suc (c .before .before .before .before .at-of .ensures))) (c .before .push-register .ensures z)
 
 pub write-register-spec : {M : Type 1} → statement M
 write-register-spec =
-    tie.close
-    (tie.spec set-register-requires next-requires moved-requires push-requires same-length returns)
+    tie.close (tie.spec at-of-requires next-requires push-register-requires same-length returns)

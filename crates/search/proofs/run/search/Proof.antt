@@ -1,24 +1,28 @@
--- `search::run::search` meets its contract. Assumes nothing.
+use borrow.Author.Needs.{needs}
 use mathlib.Core.Path.{_≡_, sym, _∙_}
 use mathlib.Core.List.{[], _∷_}
 use Prim.Native.Nat.{ℕ, _-_}
 use native.Mathlib.Omega.{arith}
 use lib.ListN.{length}
-use borrow.Author.Needs.{needs}
 use Rattle.rules.specs.Search as S
 use Rattle.rules.specs.Search.{unseen}
 use Rattle.state.specs.Shape.{sizesOf, stateOf, statesOf}
-use Rattle.state.specs.Cells.{stackOf}
 use Rattle.state.proofs.Ownership.{sound-of}
 use Rattle.search.specs.Plan.{programIn}
 use Rattle.search.specs.Run.{windowOf}
 use Rattle.search.proofs.RunLaws.{Goes, Taken, goes-start, goes-from, goes-out, goes-short, goes-refused, goes-full, goes-ended, goes-on}
+use Rattle.state.specs.Cells.{decode, stackOf}
 use Rattle.search.proofs.run.search.Statement.{statement}
 use Rattle.search.proofs.run.search.Tie as tie
+use Rattle.search.proofs.run.search.Reads as reads
+use Rattle.search.proofs.run.search.Lts as lts
+use Rattle.search.proofs.run.widen.Reads as widen-reads
+use Rattle.search.proofs.turn.turn.Reads as turn-reads
+use Rattle.state.proofs.store.Reads as store-reads
+use Rattle.state.proofs.take_slot.Reads as take-slot-reads
 
 abbrev Inv-loop : tie.InvT-loop
-Inv-loop sheet places plan budget work₀ slots height₀ steps₀ w₀ work height steps w =
-    Goes (S.search budget (programIn sheet) slots (statesOf (sizesOf (programIn sheet)) (stackOf 1 work₀)) unseen 0)
+Inv-loop sheet places plan budget work₀ slots height₀ steps₀ w₀ work height steps w = Goes (S.search budget (programIn sheet) slots (statesOf (sizesOf (programIn sheet)) (stackOf 1 work₀)) unseen 0)
     (programIn sheet) slots budget (length work₀) work height steps (windowOf w)
 
 abbrev μ-loop : tie.MeasureT-loop
@@ -38,101 +42,121 @@ head c =
 
 -- a turn's state, its result and its buffer
 taken : {whole : S.End} {size : ℕ} (c : tie.After-turn Inv-loop μ-loop) →
-    (let arg = c .before .before .before .before .before .before .before .before .before .before .before .args in
-    let loop = c .before .before .before .before .before .before .loop in
+    (let arg = c .before .before .before .before .before .before .before .before .before .before .before .before .args in
+    let loop = c .before .before .before .before .before .before .before .loop in
     Goes whole (programIn (arg .sheet .now)) (arg .slots) (arg .budget) size (loop .work) (loop .height) (loop .steps) (windowOf (loop .w))
     → Taken whole (programIn (arg .sheet .now)) (arg .slots) (arg .budget) size (loop .work) (loop .height) (loop .steps) (windowOf (loop .w)) (c .turn .last .1 .1 .1 .1 .0) (c .turn .result))
 taken c at =
     let most = at .in-budget in
-    let other = c .before .before .before .before .if1 .left in
+    let other = c .before .before .before .before .before .if1 .left in
     record {
       at = at;
-      some = c .before .before .before .before .before .loop-test .taken;
+      some = c .before .before .before .before .before .before .loop-test .taken;
       more = omega arith;
-      state = c .before .before .load .result;
-      top = c .before .before .load .ensures .0;
+      state = decode (c .before .before .before .take-slot .result);
+      top = c .before .before .before .take-slot .ensures .0;
       made = c .turn .ensures;
     }
 
 -- what is in the buffer after a turn is as long as it was
-kept : (c : tie.After-turn Inv-loop μ-loop) → length (c .turn .last .1 .1 .1 .1 .0) ≡ length (c .before .before .before .before .before .before .before .before .before .before .before .args .work .now)
-kept c = c .turn .kept .1 .1 .1 .1 .0 ∙ head (c .before .before .before .before .before .before) .sized
+kept : (c : tie.After-turn Inv-loop μ-loop) → length (c .turn .last .1 .1 .1 .1 .0) ≡ length (c .before .before .before .before .before .before .before .before .before .before .before .before .args .work .now)
+kept c = c .turn .kept .1 .1 .1 .1 .0 ∙ head (c .before .before .before .before .before .before .before) .sized
 
+-- src/run.rt:72:5
 store-requires : tie.Need-store-requires Inv-loop μ-loop
 store-requires c κs = let room = c .before .before .pre .1 .1 .0 in let one = c .before .before .pre .1 .1 .1 in (omega arith, c .before .before .pre .1 .0)
 
+-- src/run.rt:80:5
 loop-holds : tie.Need-loop-holds Inv-loop μ-loop
 loop-holds c = goes-start _ _ _ _ (c .before .before .before .before .pre .1 .1 .1)
 
+-- src/run.rt:82:13
 same-length : tie.Need-same-length Inv-loop μ-loop
 same-length c = head (c .before .before) .sized
 
+-- src/run.rt:82:13
 returns : tie.Need-returns Inv-loop μ-loop
 returns c = (sym (goes-short (head (c .before .before)) (c .before .loop-test .taken) (c .if1 .taken)), head (c .before .before) .sized)
 
+-- src/run.rt:84:9
 sub-height : tie.Need-sub-height Inv-loop μ-loop
 sub-height c = c .before .loop-test .taken
 
-load-requires : tie.Need-load-requires Inv-loop μ-loop
-load-requires c κs =
-    let at = head (c .before .before .before) in
+-- src/run.rt:85:21
+take-slot-requires : tie.Need-take-slot-requires Inv-loop μ-loop
+take-slot-requires c κs = let at = head (c .before .before .before) in
     let low = at .in-slots in
     let same = at .sized in
     let room = c .before .before .before .before .before .before .before .before .pre .1 .1 .0 in
     let some = c .before .before .loop-test .taken in
     omega arith
 
+-- src/run.rt:86:9
 add-steps : tie.Need-add-steps Inv-loop μ-loop
 add-steps c = let most = c .before .before .before .before .loop .inv .in-budget in let other = c .before .before .if1 .left in search needs
 
+-- src/run.rt:87:15
 turn-requires : tie.Need-turn-requires Inv-loop μ-loop
-turn-requires c κs =
-    let at = head (c .before .before .before .before .before) in
+turn-requires c κs = let at = head (c .before .before .before .before .before .before) in
     let low = at .in-slots in
     let same = at .sized in
-    let room = c .before .before .before .before .before .before .before .before .before .before .pre .1 .1 .0 in
-    let some = c .before .before .before .before .loop-test .taken in
-    (c .before .before .before .before .before .before .before .before .before .before .pre .0, (c .before .load .ensures .1, (omega arith, omega arith)))
+    let room = c .before .before .before .before .before .before .before .before .before .before .before .pre .1 .1 .0 in
+    let some = c .before .before .before .before .before .loop-test .taken in
+    (c .before .before .before .before .before .before .before .before .before .before .before .pre .0, (c .before .before .take-slot .ensures .1, ((omega arith, c .before .before .before .before .before .before .before .before .before .before .before .pre .1 .1 .1), omega arith)))
 
+-- src/run.rt:88:29
 enum-known-r : tie.Need-enum-known-r Inv-loop μ-loop
 enum-known-r c = search needs
 
+-- src/run.rt:89:17
 same-length-2 : tie.Need-same-length-2 Inv-loop μ-loop
 same-length-2 c = kept (c .before .before .before .before)
 
+-- src/run.rt:89:17
 returns-2 : tie.Need-returns-2 Inv-loop μ-loop
-returns-2 c = (sym (goes-refused (taken (c .before .before .before .before) (head (c .before .before .before .before .before .before .before .before .before .before))) (c .before .r .given .0 .0) (c .before .r .given .0 .1 .0) (c .before .r .given .1)), kept (c .before .before .before .before))
+returns-2 c = (sym (goes-refused (taken (c .before .before .before .before) (head (c .before .before .before .before .before .before .before .before .before .before .before))) (c .before .r .given .0 .0) (c .before .r .given .0 .1 .0) (c .before .r .given .1)), kept (c .before .before .before .before))
 
+-- src/run.rt:91:27
 enum-known-a : tie.Need-enum-known-a Inv-loop μ-loop
 enum-known-a c = search needs
 
+-- src/run.rt:92:17
 widen-requires : tie.Need-widen-requires Inv-loop μ-loop
 widen-requires c κs = search needs
 
+-- src/run.rt:80:5
 loop-less : tie.Need-loop-less Inv-loop μ-loop
-loop-less c = let most = c .before .before .before .before .before .before .before .before .before .before .before .loop .inv .in-budget in let other = c .before .before .before .before .before .before .before .before .before .if1 .left in omega arith
+loop-less c = let most = c .before .before .before .before .before .before .before .before .before .before .before .before .loop .inv .in-budget in let other = c .before .before .before .before .before .before .before .before .before .before .if1 .left in omega arith
 
+-- src/run.rt:80:5
 loop-again : tie.Need-loop-again Inv-loop μ-loop
-loop-again c = goes-ended (taken (c .before .before .before .before .before) (c .before .before .before .before .before .before .before .before .before .before .before .loop .inv)) (c .before .before .a .given .0 .0) (c .before .before .a .given .0 .1 .0) (c .before .before .a .given .1) (c .widen .ensures)
+loop-again c = goes-ended (taken (c .before .before .before .before .before) (c .before .before .before .before .before .before .before .before .before .before .before .before .loop .inv)) (c .before .before .a .given .0 .0) (c .before .before .a .given .0 .1 .0) (c .before .before .a .given .1) (c .widen .ensures)
 
+-- src/run.rt:94:28
 enum-known-h : tie.Need-enum-known-h Inv-loop μ-loop
 enum-known-h c = search needs
 
+-- src/run.rt:96:21
 same-length-3 : tie.Need-same-length-3 Inv-loop μ-loop
 same-length-3 c = kept (c .before .before .before .before .before)
 
+-- src/run.rt:96:21
 returns-3 : tie.Need-returns-3 Inv-loop μ-loop
-returns-3 c = (sym (goes-full (taken (c .before .before .before .before .before) (head (c .before .before .before .before .before .before .before .before .before .before .before))) (c .before .before .h .given .0 .0) (c .before .before .h .given .1) (c .if2 .taken)), kept (c .before .before .before .before .before))
+returns-3 c = (sym (goes-full (taken (c .before .before .before .before .before) (head (c .before .before .before .before .before .before .before .before .before .before .before .before))) (c .before .before .h .given .0 .0) (c .before .before .h .given .1) (c .if2 .taken)), kept (c .before .before .before .before .before))
 
+-- src/run.rt:80:5
 loop-less-2 : tie.Need-loop-less-2 Inv-loop μ-loop
-loop-less-2 c = let most = c .before .before .before .before .before .before .before .before .before .before .before .loop .inv .in-budget in let other = c .before .before .before .before .before .before .before .before .before .if1 .left in omega arith
+loop-less-2 c = let most = c .before .before .before .before .before .before .before .before .before .before .before .before .loop .inv .in-budget in let other = c .before .before .before .before .before .before .before .before .before .before .if1 .left in omega arith
 
+-- src/run.rt:80:5
 loop-again-2 : tie.Need-loop-again-2 Inv-loop μ-loop
-loop-again-2 c = goes-on (taken (c .before .before .before .before .before) (c .before .before .before .before .before .before .before .before .before .before .before .loop .inv)) (c .before .before .h .given .0 .0) (c .before .before .h .given .1) (c .if2 .left)
+loop-again-2 c = goes-on (taken (c .before .before .before .before .before) (c .before .before .before .before .before .before .before .before .before .before .before .before .loop .inv)) (c .before .before .h .given .0 .0) (c .before .before .h .given .1) (c .if2 .left)
 
+-- src/run.rt:59:1
 same-length-4 : tie.Need-same-length-4 Inv-loop μ-loop
 same-length-4 c = head (c .before) .sized
 
+-- src/run.rt:59:1
 returns-4 : tie.Need-returns-4 Inv-loop μ-loop
 returns-4 c = (sym (goes-out (head (c .before)) (omega (arith, c .loop-test .left))), head (c .before) .sized)
 
@@ -147,7 +171,7 @@ search-spec =
     same-length
     returns
     sub-height
-    load-requires
+    take-slot-requires
     add-steps
     turn-requires
     enum-known-r

@@ -11,7 +11,7 @@ cast-result : tie.Need-cast-result
 cast-result c = search needs
 
 returns : tie.Need-returns
-returns c = toZ-pos w32 (omega arith)
+returns c = (toZ-pos w32 (omega arith), omega arith)
 
 pub byte-cell-spec : {M : Type 1} → statement M
 byte-cell-spec = tie.close (tie.spec cast-result returns)

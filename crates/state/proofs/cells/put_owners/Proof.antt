@@ -52,7 +52,7 @@ loop-again c =
     let v = at-loop .before .args .t2 in
     let i = at-loop .loop .i in
     let r = c .byte-cell .result in
-    let e : toZ w32 (ofZ w32 r) ≡ pos (getD v i 0) = toZ-ofZ (sfits-of (c .byte-cell .ok)) ∙ c .byte-cell .ensures in (
+    let e : toZ w32 (ofZ w32 r) ≡ pos (getD v i 0) = toZ-ofZ (sfits-of (c .byte-cell .ok)) ∙ c .byte-cell .ensures .0 in (
       omega arith,
       simp length-set (omega arith),
       at-loop .loop .inv .2,

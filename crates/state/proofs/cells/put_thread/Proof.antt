@@ -48,7 +48,7 @@ written c =
     let a0 = a1 .before in
     let s = a0 .before in
     thread-written (s .args .cells .now) _ (s .args .th) _ _ _ (s .pre .0)
-    (back (a0 .byte-cell .ok) (a0 .byte-cell .ensures))
+    (back (a0 .byte-cell .ok) (a0 .byte-cell .ensures .0))
     (back (a1 .time-cell .ok) (a1 .time-cell .ensures))
     (back (a2 .time-cell2 .ok) (a2 .time-cell2 .ensures))
     (c .before .put-spans .ensures)
