@@ -1754,7 +1754,7 @@ impl Generator {
         }
     }
 
-    /// 16,384 bytes and one more.
+    /// 16,384 bytes and more.
     fn long_sheets(&mut self, entries: &mut Vec<Entry>) {
         fn tree(depth: usize) -> Arithmetic {
             if depth == 1 {
@@ -1810,6 +1810,50 @@ impl Generator {
         let mut long = sheet.clone();
         long.extend(field(6, &body(&halt())));
         entries.push(Entry { sheet: long, length: PLAIN });
+        self.too_long_sheets(&sheet, entries);
+    }
+
+    /// More than 16,384 bytes, with every other refusal of a reader in them or
+    /// no room for a state, and sheets up to 16,384 bytes beside them. `full`
+    /// is read to its end and has 16,384 bytes.
+    fn too_long_sheets(&mut self, full: &[u8], entries: &mut Vec<Entry>) {
+        let padded = |front: &[u8], size: usize, byte: u8| {
+            let mut sheet = front.to_vec();
+            sheet.resize(size, byte);
+            sheet
+        };
+        let thread = Thread { registers: vec![], statements: vec![skip((2, 3)), halt()] };
+        let short = Plan::of(0, vec![], vec![thread.clone()]).bytes();
+        let ninth = Plan::of(0, vec![(0, 0); 9], vec![thread]).bytes();
+        let no_halt = [&full[..full.len() - 8], &field(6, &body(&skip((1, 1))))].concat();
+        let statement = fields(full).into_iter().find(|&place| full[place] == 6).expect("a statement");
+        let changed = |at: usize, byte: u8| {
+            let mut sheet = full.to_vec();
+            sheet[statement + at] = byte;
+            sheet
+        };
+        for (sheet, length) in [
+            (full[..16_383].to_vec(), PLAIN),
+            (no_halt.clone(), PLAIN),
+            (padded(&short, 16_384, 0), PLAIN),
+            (padded(&short, 16_385, 0), PLAIN),
+            (padded(&short, 16_386, 0xFF), 100),
+            (padded(full, 20_000, 0), 200),
+            // without 9: 1, 2, 3 and 4 at the first field
+            (padded(&[1, 0xFF, 0xFF], 16_386, 0), PLAIN),
+            (padded(&short[1..], 16_385, 0), 99),
+            (padded(&field(1, &[0; 17]), 16_385, 0), 0),
+            (padded(&header(10, 1, 0, 11), 16_385, 0), 199),
+            // 5, 6, 7 and 8
+            (padded(&changed(8, 1), 16_385, 6), 200),
+            (padded(&changed(9, 32), 16_385, 6), 300),
+            ([&no_halt[..], &field(4, &[0])].concat(), PLAIN),
+            (padded(&ninth, 16_385, 0), 101),
+            // 14 before the first step
+            ([full, &field(6, &body(&halt()))].concat(), 0),
+        ] {
+            entries.push(Entry { sheet, length });
+        }
     }
 }
 

@@ -2,7 +2,7 @@
 """Compares the formal definitions of crates/rules with the oracle.
 
     try_rules.py SEED COUNT       random small sheets (tools/corpus.rs)
-    try_rules.py CORPUS           a corpus, but for long sheets that are read whole
+    try_rules.py CORPUS           a corpus, but for long sheets that are read far
 
 States of each sheet, beside a scratch copy of the definitions, that `answer`
 gives the oracle's five numbers: one definition a sheet, proved by computing.
@@ -43,6 +43,12 @@ def entries(data):
         at += FRONT + number(front[:2])
         five = (front[4], number(front[5:7]), number(front[7:11]), number(front[11:15]), number(front[15:19]))
         yield data[at - number(front[:2]):at], number(front[2:4]), five
+
+
+def last_place(fact):
+    """Where the reader refuses the sheet, else its end."""
+    sheet, _, (refusal, place, *_) = fact
+    return place if 1 <= refusal <= TOO_LONG else len(sheet)
 
 
 def small_sheets(seed, count):
@@ -93,7 +99,7 @@ def main(arguments):
     else:
         sys.exit("usage: try_rules.py SEED COUNT | CORPUS")
     whole = len(sheets)
-    sheets = [fact for fact in sheets if len(fact[0]) <= MOST_BYTES or fact[2][0] == TOO_LONG]
+    sheets = [fact for fact in sheets if last_place(fact) <= MOST_BYTES]
     left = list(enumerate(sheets))
     differ = []
     while True:

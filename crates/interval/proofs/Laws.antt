@@ -3,11 +3,11 @@
 use Prim.Native.Nat.{ℕ, zero, suc, _+_, _*_, _-_, _/_, _^_, _≤_, _<_, zero-le}
 use mathlib.Core.Path.{_≡_, refl, sym, ap, ap₂, subst, subst₂, _∙_}
 use mathlib.Core.Logic.{_≢_}
-use mathlib.Core.Bool.{Bool, true, false, cond}
-use native.Mathlib.Nat.{div-zero, le-refl, le-trans, le-of-lt, mul-le-mul, div-le-self}
+use mathlib.Core.Bool.{Bool, true, false, cond, Bool·beq}
+use native.Mathlib.Nat.{div-zero, zero-div, le-refl, le-trans, le-of-lt, mul-le-mul, div-le-self}
 use native.Mathlib.Omega.{arith}
 use lib.Dec.{T, ltb}
-use lib.IntN.{ℤ, pos, negsuc, negℤ, sucℤ, predℤ, _+ℤ_, _-ℤ_, _*ℤ_, +ℤ-sucℤ, +ℤ-predℤ, +ℤ-idr}
+use lib.IntN.{ℤ, pos, negsuc, natAbs, negℤ, sucℤ, predℤ, _+ℤ_, _-ℤ_, _*ℤ_, +ℤ-sucℤ, +ℤ-predℤ, +ℤ-idl, +ℤ-idr}
 use lib.Signed.{mag, quotZ, leZ, ltZ}
 use mir.Syntax.{Width, w32, w64}
 use mir.Val.{SFits, toZ, ofZ}
@@ -81,9 +81,6 @@ module _ {x y : ℤ} (hx : SFits w32 x) (hy : SFits w32 y) where
   pub mul-fits : SFits w64 (x *ℤ y)
   mul-fits = record { sfits = omega (arith, mag-mul (2 ^ 31) x y (hx .sfits) (hy .sfits)) }
 
-  pub quot-fits : SFits w64 (quotZ x y)
-  quot-fits = record { sfits = omega (arith, mag-quot x y, hx .sfits) }
-
 -- ---- what a need asks of each operation, for `search`: the operands are a field's bits, cast to 64
 module _ (x y : ℤ) (hx : SFits w32 x) (hy : SFits w32 y) where
   pub add-fits′ : SFits w64 (wide x +ℤ wide y)
@@ -103,12 +100,6 @@ module _ (x y : ℤ) (hx : SFits w32 x) (hy : SFits w32 y) where
 
   pub mul-is′ : toZ w64 (ofZ w64 (wide x *ℤ wide y)) ≡ x *ℤ y
   mul-is′ = op-is _*ℤ_ x y hx hy (mul-fits hx hy)
-
-  pub quot-fits′ : SFits w64 (quotZ (wide x) (wide y))
-  quot-fits′ = op-fits quotZ x y hx hy (quot-fits hx hy)
-
-  pub quot-is′ : toZ w64 (ofZ w64 (quotZ (wide x) (wide y))) ≡ quotZ x y
-  quot-is′ = op-is quotZ x y hx hy (quot-fits hx hy)
 
 -- ---- tests on bits are tests on the numbers
 module _ {w : Width} {x y : ℤ} (hx : SFits w x) (hy : SFits w y) where
@@ -141,17 +132,95 @@ module _ (w : Width) (x y : ℤ) (e : leZ (toZ w (ofZ w x)) (toZ w (ofZ w y)) �
 true-false {ℓ} : {X : Type ℓ} → true ≡ false → X
 true-false e = absurd (subst T e tt)
 
--- ---- a divisor
-positive : {z : ℤ} → SFits w64 z → z ≢ pos 0 → 0 < ofZ w64 z
-positive {z = pos zero} h ne = absurd (ne refl)
-positive {z = pos (suc n)} h ne = omega arith
-positive {z = negsuc n} h ne = omega (arith, h .sfits)
-
-pub divides : (z : ℤ) → SFits w32 z → z ≢ pos 0 → 0 < ofZ w64 (toZ w32 (ofZ w32 z))
-divides z h ne = rw (toZ-ofZ h) (positive (sfits-widen tt h) ne)
-
 pub in-fits : {z : ℤ} → inRange (2 ^ 31) z ≡ true → SFits w32 z
 in-fits {z} e = record { sfits = ltb-true (mag z) (2 ^ 31) (sym (in-range-is (2 ^ 31) z) ∙ e) }
+
+-- ---- the magnitude of a value
+never-below : (a : ℕ) (t : Bool) → ltb a 0 ≡ t → t ≡ false
+never-below a true e = absurd (omega (arith, ltb-true a 0 e))
+never-below a false e = refl
+
+not-negative : (a : ℕ) → ltZ (pos a) (pos 0) ≡ false
+not-negative a = never-below a (ltb a 0) refl
+
+abs-below : (x : ℤ) → ltZ x (pos 0) ≡ true → pos 0 -ℤ x ≡ pos (natAbs x)
+abs-below (pos a) e = true-false (sym e ∙ not-negative a)
+abs-below (negsuc a) e = +ℤ-idl (pos (suc a))
+
+abs-above : (x : ℤ) → ltZ x (pos 0) ≡ false → x ≡ pos (natAbs x)
+abs-above (pos a) e = refl
+abs-above (negsuc a) e = true-false e
+
+pub neg-fits : (x : ℤ) → SFits w32 x → SFits w64 (pos 0 -ℤ wide x)
+neg-fits x h = rw (wide-is h) (sub-fits {x = pos 0} (record { sfits = omega arith }) h)
+
+-- the test of `magnitude`, as the branch leaves it, and what is then the magnitude
+module _ (x : ℤ) (e : ltZ (wide x) (pos 0) ≡ true) (h : SFits w32 x) where
+  pub abs-yes : toZ w64 (ofZ w64 (pos 0 -ℤ wide x)) ≡ pos (natAbs x)
+  abs-yes = toZ-ofZ (neg-fits x h) ∙ ap (λ (z : ℤ). pos 0 -ℤ z) (wide-is h) ∙ abs-below x (sym (ap (λ (z : ℤ). ltZ z (pos 0)) (wide-is h)) ∙ e)
+
+module _ (x : ℤ) (e : ltZ (wide x) (pos 0) ≡ false) (h : SFits w32 x) where
+  pub abs-no : wide x ≡ pos (natAbs x)
+  abs-no = wide-is h ∙ abs-above x (sym (ap (λ (z : ℤ). ltZ z (pos 0)) (wide-is h)) ∙ e)
+
+-- ---- a quotient by magnitudes, which are at most 2 ^ 31
+abs-small : (x : ℤ) → SFits w32 x → natAbs x ≤ 2 ^ 31
+abs-small (pos a) h = omega (arith, h .sfits)
+abs-small (negsuc a) h = omega (arith, h .sfits)
+
+abs-held : (x m : ℤ) → SFits w32 x → m ≡ pos (natAbs x) → toZ w64 (ofZ w64 m) ≡ pos (natAbs x)
+abs-held x m h e = ap (λ (z : ℤ). toZ w64 (ofZ w64 z)) e ∙ toZ-ofZ {w = w64} {z = pos (natAbs x)} (record { sfits = omega (arith, abs-small x h) })
+
+pub held-small : (x m : ℤ) → SFits w32 x → m ≡ pos (natAbs x) → mag (toZ w64 (ofZ w64 m)) ≤ 2 ^ 31
+held-small x m h e = rw (abs-held x m h e) (abs-small x h)
+
+divisor : (y : ℤ) → y ≢ pos 0 → 0 < natAbs y
+divisor (pos zero) ne = absurd (ne refl)
+divisor (pos (suc b)) ne = omega arith
+divisor (negsuc b) ne = omega arith
+
+pub divides : (y n : ℤ) → y ≢ pos 0 → n ≡ pos (natAbs y) → 0 < ofZ w64 n
+divides y n ne e = rw e (divisor y ne)
+
+module _ (p q : ℤ) (h : mag p ≤ 2 ^ 31) (k : mag q ≤ 2 ^ 31) where
+  pub sub-small : SFits w64 (p -ℤ q)
+  sub-small = record { sfits = omega (arith, mag-sub p q, h, k) }
+
+  pub quot-sub-small : (n : ℤ) → SFits w64 (quotZ (toZ w64 (ofZ w64 (p -ℤ q))) n)
+  quot-sub-small n = rw (toZ-ofZ sub-small) (record { sfits = omega (arith, mag-quot (p -ℤ q) n, mag-sub p q, h, k) })
+
+pub quot-small : (p n : ℤ) → mag p ≤ 2 ^ 31 → SFits w64 (quotZ p n)
+quot-small p n h = record { sfits = omega (arith, mag-quot p n, h) }
+
+quot-positive : (x y : ℤ) → Bool·beq (ltZ x (pos 0)) (ltZ y (pos 0)) ≡ true → quotZ (pos (natAbs x)) (pos (natAbs y)) ≡ quotZ x y
+quot-positive (pos a) (pos b) e = refl
+quot-positive (pos a) (negsuc b) e = true-false (sym e ∙ ap (λ (t : Bool). Bool·beq t true) (not-negative a))
+quot-positive (negsuc a) (pos b) e = true-false (sym e ∙ ap (Bool·beq true) (not-negative b))
+quot-positive (negsuc a) (negsuc b) e = refl
+
+quot-negative : (x y : ℤ) → Bool·beq (ltZ x (pos 0)) (ltZ y (pos 0)) ≡ false → quotZ (negℤ (pos (natAbs x))) (pos (natAbs y)) ≡ quotZ x y
+quot-negative (pos a) (pos b) e = true-false (sym (ap₂ Bool·beq (not-negative a) (not-negative b)) ∙ e)
+quot-negative (pos zero) (negsuc b) e = rw (zero-div (suc b)) refl
+quot-negative (pos (suc a)) (negsuc b) e = refl
+quot-negative (negsuc a) (pos b) e = refl
+quot-negative (negsuc a) (negsuc b) e = true-false e
+
+module _ (x y m n : ℤ) (hx : SFits w32 x) (hy : SFits w32 y) (em : m ≡ pos (natAbs x)) (en : n ≡ pos (natAbs y)) where
+  signs : (t : Bool) → Bool·beq (ltZ (toZ w32 (ofZ w32 x)) (pos 0)) (ltZ (toZ w32 (ofZ w32 y)) (pos 0)) ≡ t → Bool·beq (ltZ x (pos 0)) (ltZ y (pos 0)) ≡ t
+  signs t e = sym (ap₂ (λ (u v : ℤ). Bool·beq (ltZ u (pos 0)) (ltZ v (pos 0))) (toZ-ofZ hx) (toZ-ofZ hy)) ∙ e
+
+  pub quot-same : Bool·beq (ltZ (toZ w32 (ofZ w32 x)) (pos 0)) (ltZ (toZ w32 (ofZ w32 y)) (pos 0)) ≡ true → toZ w64 (ofZ w64 (quotZ (toZ w64 (ofZ w64 m)) (toZ w64 (ofZ w64 n)))) ≡ quotZ x y
+  quot-same e =
+      toZ-ofZ (quot-small (toZ w64 (ofZ w64 m)) (toZ w64 (ofZ w64 n)) (held-small x m hx em))
+      ∙ ap₂ quotZ (abs-held x m hx em) (abs-held y n hy en)
+      ∙ quot-positive x y (signs true e)
+
+  pub quot-opposite : Bool·beq (ltZ (toZ w32 (ofZ w32 x)) (pos 0)) (ltZ (toZ w32 (ofZ w32 y)) (pos 0)) ≡ false → toZ w64 (ofZ w64 (quotZ (toZ w64 (ofZ w64 (pos 0 -ℤ toZ w64 (ofZ w64 m)))) (toZ w64 (ofZ w64 n)))) ≡ quotZ x y
+  quot-opposite e =
+      let small = held-small x m hx em in
+      toZ-ofZ (quot-sub-small (pos 0) (toZ w64 (ofZ w64 m)) zero-le small (toZ w64 (ofZ w64 n)))
+      ∙ ap₂ quotZ (toZ-ofZ (sub-small (pos 0) (toZ w64 (ofZ w64 m)) zero-le small) ∙ +ℤ-idl (negℤ (toZ w64 (ofZ w64 m))) ∙ ap negℤ (abs-held x m hx em)) (abs-held y n hy en)
+      ∙ quot-negative x y (signs false e)
 
 -- ---- one more and one less
 pub plus-one : (z : ℤ) → z +ℤ pos 1 ≡ sucℤ z
@@ -181,4 +250,4 @@ quot-zero (pos a) = ap pos (div-zero a)
 quot-zero (negsuc a) = ap (λ (n : ℕ). negℤ (pos n)) (div-zero (suc a))
 
 -- `search signed` answers every need of an operation on two 32-bit fields at 64 bits
-pub ruleset signed = (needs, casts, add-fits′, add-is′, sub-fits′, sub-is′, mul-fits′, mul-is′, quot-fits′, quot-is′, divides, min-yes, max-yes, min-no, max-no)
+pub ruleset signed = (needs, casts, add-fits′, add-is′, sub-fits′, sub-is′, mul-fits′, mul-is′, neg-fits, min-yes, max-yes, min-no, max-no)

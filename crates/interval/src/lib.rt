@@ -3,7 +3,7 @@
 use refusal::Refusal;
 ghost use mathlib.Core.Path.{_≡_};
 ghost use mathlib.Core.Logic.{_≢_};
-ghost use lib.IntN.{pos, _+ℤ_, _-ℤ_, _*ℤ_, sucℤ, predℤ};
+ghost use lib.IntN.{pos, natAbs, _+ℤ_, _-ℤ_, _*ℤ_, sucℤ, predℤ};
 ghost use lib.Signed.{leZ, ltZ};
 ghost use mir.Syntax.{w32};
 ghost use mir.Val.{SFits};
@@ -58,12 +58,27 @@ fn multiply(a: Val, b: Val) -> Wide
     Wide(a.0 as i64 * b.0 as i64)
 }
 
-// The fraction is dropped toward zero.
+// The distance from 0.
+fn magnitude(a: Val) -> Wide
+    ensures { λ r. ⌜ r .0 ≡ pos (natAbs (a .0)) ⌝ }
+{
+    let x = a.0 as i64;
+    if x < 0 { Wide(-x) } else { Wide(x) }
+}
+
+// The quotient of the magnitudes with its sign: the fraction is dropped toward zero. Magnitudes fit 32 unsigned bits, and take
+// the machine's short division.
 fn divide_nonzero(a: Val, b: Val) -> Wide
     requires { ⌜ b .0 ≢ pos 0 ⌝ }
     ensures { λ q. ⌜ q .0 ≡ quotient (a .0) (b .0) ⌝ }
 {
-    Wide(a.0 as i64 / b.0 as i64)
+    let m = magnitude(a);
+    let n = magnitude(b);
+    if (a.0 < 0) == (b.0 < 0) {
+        return Wide(m.0 / n.0);
+    }
+    let d = -m.0;
+    Wide(d / n.0)
 }
 
 // By 0 it is 0, as in the rules: an end of a divisor's span can be 0 without the span holding 0, where low is above high.
