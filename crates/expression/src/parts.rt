@@ -52,7 +52,7 @@ fn checked_as(check: Check, next: usize) -> Checked
     }
 }
 
-fn check_reading(x: Reading) -> Check
+pub(crate) fn check_reading(x: Reading) -> Check
     ensures { λ r. ⌜ checkOf r ≡ faultIn (resultOf x) ⌝ }
 {
     match x {
@@ -61,7 +61,7 @@ fn check_reading(x: Reading) -> Check
     }
 }
 
-fn first_fault(x: Check, y: Check) -> Check
+pub(crate) fn first_fault(x: Check, y: Check) -> Check
     ensures { λ r. ⌜ checkOf r ≡ firstFault (checkOf x) (checkOf y) ⌝ }
 {
     match x {
