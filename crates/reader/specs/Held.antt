@@ -27,5 +27,6 @@ headRead r =
     let h = headAt (now (r .sheet)) (r .at) in
     record { tag = h .tag; length = h .length; rest = record { sheet = r .sheet; at = h .body } }
 
-abbrev pub fieldAt : Bytes → ℕ → Field
+-- whether the header is whole, and what it says
+unfoldable pub fieldAt : Bytes → ℕ → Field
 fieldAt s at = let h = headAt s at in record { whole = hasHead s at; tag = h .tag; length = h .length; body = h .body }

@@ -5,7 +5,11 @@ use expression::num16_at;
 ghost use mathlib.Core.Path.{_≡_};
 ghost use Rattle.reader.specs.Held.{enough, headAt, headRead, fieldAt};
 
-// A tag and a length.
+// Where a header has its tag and its length, and how long it is.
+const TAG: usize = 0;
+
+const LENGTH: usize = 1;
+
 const HEAD: usize = 3;
 
 pub struct Reader<'a> {
@@ -52,9 +56,9 @@ fn head_at(s: &[u8], at: usize) -> Head
     ensures { λ r. ⌜ r ≡ headAt (now (s .entry)) at ⌝ }
 {
     if remain_at(s, at, HEAD) {
-        let length = num16_at(s, at + 1);
+        let length = num16_at(s, at + LENGTH);
         return Head {
-            tag: s[at],
+            tag: s[at + TAG],
             length: length as u16,
             body: at + HEAD,
         };

@@ -171,6 +171,7 @@ module _ {M : Type 1} (𝓤 : URA M) (H : Heap 𝓤) (A : Atoms 𝓤) (W : Given
 
   exits : (b : Bool) (p : ℕ) → h .tag < 2 ^ 8 → h .length < 2 ^ 16 → p < 2 ^ 64 → b ≡ enough (now s) at 3 → p ≡ h .rest .at
       → ent 𝓤 (⋆ 𝓤 H A ((‵ (flft κ q) ⊛ ‵ ftrue) ∷ ‵ (OwnSheet κ s) ∷ [])) (Post (F′.lowered (result b p)))
+  unfolding fieldAt
   exits b p tag-fits length-fits p-fits e e′ =
       qed W ((‵ (flft κ q) ⊛ ‵ ftrue) ∷ ‵ (OwnSheet κ s) ∷ []) ∵
       suffices ! _ (ends-at 𝓤 H A field-at.ended stayed (field-at.clauses 𝓤 H A mem run) W (((κ, tt), (q, tt), tt, (s, (at, tt)), vals), tt) (F′.lowered (result b p)) (result b p) (tt, (tt, tt)) (tt, (tt, tt))) $
