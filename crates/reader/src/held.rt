@@ -12,27 +12,27 @@ const LENGTH: usize = 1;
 
 const HEAD: usize = 3;
 
-pub struct Reader<'a> {
-    pub sheet: &'a [u8],
-    pub at: usize,
+struct Reader<'a> {
+    sheet: &'a [u8],
+    at: usize,
 }
 
 // A field's tag, its length, and the place of its body.
-pub struct Head {
-    pub tag: u8,
-    pub length: u16,
-    pub body: usize,
+struct Head {
+    tag: u8,
+    length: u16,
+    body: usize,
 }
 
 // A field's tag, its length, and the reader moved on to its body.
-pub struct HeadRead<'a> {
-    pub tag: u8,
-    pub length: u16,
-    pub rest: Reader<'a>,
+struct HeadRead<'a> {
+    tag: u8,
+    length: u16,
+    rest: Reader<'a>,
 }
 
 // The header of a field, and whether the sheet has all of it.
-pub struct Field {
+pub(crate) struct Field {
     pub whole: bool,
     pub tag: u8,
     pub length: u16,
