@@ -3,3 +3,4 @@ pub mod Outcome
 pub mod Index
 pub mod Decoded
 pub mod Facts
+pub mod Held

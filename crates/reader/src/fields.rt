@@ -1,7 +1,7 @@
 // Fields: a byte, a header, a length, and the fields of fixed length.
 // Every function is given the whole sheet s and the place of a field in it.
+use crate::held::field_at;
 use crate::outcome::End;
-use expression::num16_at;
 use expression::num32_at;
 use refusal::Refusal;
 ghost use mathlib.Core.Path.{_≡_};
@@ -41,17 +41,16 @@ pub fn byte_at(s: &[u8], p: usize) -> usize
 pub fn has_head(s: &[u8], at: usize) -> bool
     ensures { λ r. ⌜ r ≡ hasHead (now (s .entry)) at ⌝ }
 {
-    if s.len() < 3 {
-        return false;
-    }
-    at <= s.len() - 3
+    let f = field_at(s, at);
+    f.whole
 }
 
 pub(crate) fn length_at(s: &[u8], at: usize) -> usize
     requires { ⌜ at + 3 ≤ length (now s) ⌝ }
     ensures { λ r. ⌜ (r ≡ num16 (now (s .entry)) (at + 1)) × (r < 65536) ⌝ }
 {
-    num16_at(s, at + 1) as usize
+    let f = field_at(s, at);
+    f.length as usize
 }
 
 pub(crate) fn has_body(s: &[u8], at: usize) -> bool
@@ -66,8 +65,9 @@ pub(crate) fn has_body(s: &[u8], at: usize) -> bool
 pub fn due_at(s: &[u8], at: usize, tag: u8) -> End
     ensures { λ r. ⌜ r ≡ endOf (due tag (now (s .entry)) at (got at at)) ⌝ }
 {
-    if has_head(s, at) {
-        if s[at] == tag {
+    let f = field_at(s, at);
+    if f.whole {
+        if f.tag == tag {
             return End::At(at);
         }
         return End::Refused(Refusal::OutOfTurn, at);
@@ -80,12 +80,13 @@ pub(crate) fn fixed_end(s: &[u8], at: usize, n: usize) -> End
     requires { ⌜ (at + 3 ≤ length (now s)) × (n < 65536) ⌝ }
     ensures { λ r. ⌜ r ≡ endOf (sized (now (s .entry)) at n true n) ⌝ }
 {
-    let m = length_at(s, at);
-    if s.len() < at + 3 + m {
+    let f = field_at(s, at);
+    let m = f.length as usize;
+    if s.len() < f.body + m {
         return End::Refused(Refusal::Short, at);
     }
     if m == n {
-        return End::At(at + 3 + n);
+        return End::At(f.body + n);
     }
     End::Refused(Refusal::BadLength, at)
 }

@@ -1,5 +1,6 @@
 // The reader of a sheet: any bytes to an index of the sheet, or the first refusal with its place.
 pub mod outcome; // what a reader gives
+mod held; // the reader that holds the sheet
 pub mod fields; // a header, a length, and the fields of tags 1, 3 and 4
 pub mod ranges; // the fields of tags 2 and 5
 pub mod statements; // the field of tag 6, and the closing of a thread

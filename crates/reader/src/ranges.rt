@@ -1,7 +1,7 @@
 // Ranges: the starting values of variables (tag 2) and registers (tag 5).
 use crate::fields::due_at;
 use crate::fields::fixed_end;
-use crate::fields::has_head;
+use crate::held::field_at;
 use crate::outcome::Count;
 use crate::outcome::End;
 use crate::outcome::Next;
@@ -46,11 +46,12 @@ pub fn register_end(s: &[u8], at: usize) -> End
 fn variable_here(s: &[u8], at: usize) -> Next
     ensures { λ r. ⌜ r ≡ nextOf (variableHere (now (s .entry)) at) ⌝ }
 {
-    if has_head(s, at) {
-        if s[at] == 2 {
+    let f = field_at(s, at);
+    if f.whole {
+        if f.tag == 2 {
             return Next::More;
         }
-        if s[at] == 4 {
+        if f.tag == 4 {
             return Next::Done;
         }
         return Next::Wrong(Refusal::OutOfTurn);

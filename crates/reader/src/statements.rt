@@ -2,8 +2,8 @@
 // Every function is given the whole sheet s; `at` is the place of a statement's field, e the end of its body.
 use crate::fields::byte_at;
 use crate::fields::has_body;
-use crate::fields::has_head;
 use crate::fields::length_at;
+use crate::held::field_at;
 use crate::outcome::Count;
 use crate::outcome::End;
 use crate::outcome::Next;
@@ -191,8 +191,9 @@ fn statement_end(s: &[u8], names: Names, at: usize) -> End
 fn first_here(s: &[u8], at: usize) -> Next
     ensures { λ r. ⌜ r ≡ nextOf (statementHere 0 (now (s .entry)) at) ⌝ }
 {
-    if has_head(s, at) {
-        if s[at] == 6 {
+    let f = field_at(s, at);
+    if f.whole {
+        if f.tag == 6 {
             return Next::More;
         }
         return Next::Wrong(Refusal::OutOfTurn);
@@ -206,11 +207,12 @@ fn later_here(s: &[u8], at: usize) -> Next
     if at == s.len() {
         return Next::Done;
     }
-    if has_head(s, at) {
-        if s[at] == 6 {
+    let f = field_at(s, at);
+    if f.whole {
+        if f.tag == 6 {
             return Next::More;
         }
-        if s[at] == 4 {
+        if f.tag == 4 {
             return Next::Done;
         }
         return Next::Wrong(Refusal::OutOfTurn);

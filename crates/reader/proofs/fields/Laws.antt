@@ -1,7 +1,7 @@
 -- What the readings of a header and of the fields of tags 1, 3 and 4 are, as the code goes through them.
 use mathlib.Core.Path.{_≡_, refl, sym, ap, _∙_}
 use mathlib.Core.Bool.{Bool, true, false, _&&_}
-use Prim.Native.Nat.{ℕ, zero, suc, _+_, _-_, _<_, _≤_}
+use Prim.Native.Nat.{ℕ, zero, suc, _+_, _<_, _≤_}
 use native.Mathlib.Omega.{arith}
 use lib.Dec.{leb, ltb, eqb}
 use lib.ListN.{length, getD, List·getD-eq-default}
@@ -23,19 +23,7 @@ past-end s p h = sym (List·getD-eq-default s 0 h)
 
 -- ---- a header and a body
 
-shift : (a l : ℕ) (b : Bool) → 3 ≤ l → leb a (l - 3) ≡ b → b ≡ leb (a + 3) l
-shift a l true h e = let m = leb-true a (l - 3) e in let k : a + 3 ≤ l = omega arith in sym (le-leb (a + 3) l k)
-shift a l false h e = let m = leb-false a (l - 3) e in let k : l < a + 3 = omega arith in sym (lt-leb (a + 3) l k)
-
 module _ (s : Bytes) (at : ℕ) where
-  pub head-short : length s < 3 → false ≡ hasHead s at
-  unfolding hasHead
-  head-short h = let k : length s < at + 3 = omega arith in sym (lt-leb (at + 3) (length s) k)
-
-  pub head-is : 3 ≤ length s → leb at (length s - 3) ≡ hasHead s at
-  unfolding hasHead
-  head-is h = shift at (length s) (leb at (length s - 3)) h refl
-
   pub head-room : {f : Bool} → f ≡ hasHead s at → f ≡ true → at + 3 ≤ length s
   unfolding hasHead
   head-room e f = leb-true (at + 3) (length s) (sym e ∙ f)
@@ -94,22 +82,22 @@ module _ (tag : ℕ) (s : Bytes) (at : ℕ) where
 
 -- ---- a field of fixed length, and then its contents
 
-module _ (s : Bytes) (at n m : ℕ) (em : m ≡ num16 s (at + 1)) where
-  pub fixed-short : {A : Type 0} (ok : Bool) (a : A) → length s < at + 3 + m → Refused Short at ≡ endOf (sized s at n ok a)
+module _ (s : Bytes) (at n : ℕ) {m b : ℕ} (em : m ≡ num16 s (at + 1)) (eb : b ≡ at + 3) where
+  pub fixed-short : {A : Type 0} (ok : Bool) (a : A) → length s < b + m → Refused Short at ≡ endOf (sized s at n ok a)
   unfolding sized hasBody
   fixed-short ok a h = let k : length s < at + 3 + num16 s (at + 1) = omega arith in need-no _ short _ _ (lt-leb (at + 3 + num16 s (at + 1)) (length s) k)
 
-  pub fixed-length : {A : Type 0} (ok : Bool) (a : A) → at + 3 + m ≤ length s → (m ≡ n → ⊥) → Refused BadLength at ≡ endOf (sized s at n ok a)
-  unfolding sized hasBody
-  fixed-length ok a h f =
-      let k : at + 3 + num16 s (at + 1) ≤ length s = omega arith in
-      need-yes _ _ _ _ (le-leb (at + 3 + num16 s (at + 1)) (length s) k) (need-no _ badLength _ _ (ne-eqb (num16 s (at + 1)) n (λ e. f (em ∙ e))))
+  module _ (h : b + m ≤ length s) where
+    inside : leb (at + 3 + num16 s (at + 1)) (length s) ≡ true
+    inside = let k : at + 3 + num16 s (at + 1) ≤ length s = omega arith in le-leb (at + 3 + num16 s (at + 1)) (length s) k
 
-  pub fixed-whole : {A : Type 0} (a : A) → at + 3 + m ≤ length s → m ≡ n → At (at + 3 + n) ≡ endOf (sized s at n true a)
-  unfolding sized hasBody endOf need
-  fixed-whole a h f =
-      let k : at + 3 + num16 s (at + 1) ≤ length s = omega arith in
-      need-yes _ _ _ _ (le-leb (at + 3 + num16 s (at + 1)) (length s) k) (need-yes _ _ _ _ (eq-eqb (num16 s (at + 1)) n (sym em ∙ f)) refl)
+    pub fixed-length : {A : Type 0} (ok : Bool) (a : A) → (m ≡ n → ⊥) → Refused BadLength at ≡ endOf (sized s at n ok a)
+    unfolding sized hasBody
+    fixed-length ok a f = need-yes _ _ _ _ inside (need-no _ badLength _ _ (ne-eqb (num16 s (at + 1)) n (λ e. f (em ∙ e))))
+
+    pub fixed-whole : {A : Type 0} (a : A) → m ≡ n → At (b + n) ≡ endOf (sized s at n true a)
+    unfolding sized hasBody endOf need
+    fixed-whole a f = need-yes _ _ _ _ inside (need-yes _ _ _ _ (eq-eqb (num16 s (at + 1)) n (sym em ∙ f)) (ap (λ (k : ℕ). At (k + n)) eb))
 
 core : {A : Type 0} → Bool → Bool → Bool → ℕ → ℕ → A → Got A
 core b d ok at q a = need b short at (need d badLength at (need ok offRange at (got a q)))

@@ -1,17 +1,14 @@
 -- `reader::fields::has_head` meets its contract. Assumes nothing.
 use borrow.Author.Needs.{needs}
-use Rattle.reader.proofs.fields.Laws.{head-short, head-is}
+use Rattle.reader.proofs.held.Laws.{field-whole}
 use Rattle.reader.proofs.fields.has_head.Statement.{statement}
 use Rattle.reader.proofs.fields.has_head.Tie as tie
 
+field-at-requires : tie.Need-field-at-requires
+field-at-requires c κs = search needs
+
 returns : tie.Need-returns
-returns c = head-short _ _ (c .if1 .taken)
-
-sub-result : tie.Need-sub-result
-sub-result c = search needs
-
-returns-2 : tie.Need-returns-2
-returns-2 c = head-is _ _ (c .if1 .left)
+returns c = field-whole _ _ (c .field-at .ensures)
 
 pub has-head-spec : {M : Type 1} → statement M
-has-head-spec = tie.close (tie.spec returns sub-result returns-2)
+has-head-spec = tie.close (tie.spec field-at-requires returns)

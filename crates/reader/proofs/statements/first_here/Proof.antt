@@ -1,26 +1,25 @@
 -- `reader::statements::first_here` meets its contract. Assumes nothing.
-use native.Mathlib.Omega.{arith}
 use borrow.Author.Needs.{needs}
 use Rattle.reader.proofs.statements.Laws.{first-more, first-wrong, first-none}
-use Rattle.reader.proofs.fields.Laws.{head-room}
+use Rattle.reader.proofs.held.Laws.{field-whole, field-tag, field-not}
 use Rattle.reader.proofs.statements.first_here.Statement.{statement}
 use Rattle.reader.proofs.statements.first_here.Tie as tie
 
-has-head-requires : tie.Need-has-head-requires
-has-head-requires c κs = search needs
-
-shared-slice-read-if2 : tie.Need-shared-slice-read-if2
-shared-slice-read-if2 c = let h = head-room _ _ (c .before .before .has-head .ensures) (c .before .if1 .taken) in omega arith
+field-at-requires : tie.Need-field-at-requires
+field-at-requires c κs = search needs
 
 returns : tie.Need-returns
-returns c = first-more _ _ (c .before .before .before .has-head .ensures) (c .before .before .if1 .taken) (c .if2 .taken)
+returns c =
+    let e = c .before .before .before .field-at .ensures in let y = c .before .before .if1 .taken in
+    first-more _ _ (field-whole _ _ e) y (field-tag _ _ e y (c .if2 .taken))
 
 returns-2 : tie.Need-returns-2
-returns-2 c = first-wrong _ _ (c .before .before .before .has-head .ensures) (c .before .before .if1 .taken) (c .if2 .left)
+returns-2 c =
+    let e = c .before .before .before .field-at .ensures in let y = c .before .before .if1 .taken in
+    first-wrong _ _ (field-whole _ _ e) y (field-not _ _ e y (c .if2 .left))
 
 returns-3 : tie.Need-returns-3
-returns-3 c = first-none _ _ (c .before .has-head .ensures) (c .if1 .left)
+returns-3 c = first-none _ _ (field-whole _ _ (c .before .field-at .ensures)) (c .if1 .left)
 
 pub first-here-spec : {M : Type 1} → statement M
-first-here-spec =
-    tie.close (tie.spec has-head-requires shared-slice-read-if2 returns returns-2 returns-3)
+first-here-spec = tie.close (tie.spec field-at-requires returns returns-2 returns-3)
