@@ -1,17 +1,16 @@
 -- What the events from thread t on are, by the statement that the code fetched for it.
-use mathlib.Core.Path.{_≡_, sym, ap, subst, _∙_}
+use mathlib.Core.Path.{_≡_, refl, sym, ap, subst, _∙_}
 use mathlib.Core.Bool.{Bool, true, false}
 use mathlib.Core.List.{List, _∷_}
 use Prim.Native.Nat.{ℕ, suc, _+_, _≤_, _<_, max}
 use native.Mathlib.Omega.{arith}
 use borrow.Author.Tests.{le-leb, lt-leb}
-use lib.Dec.{leb}
 use lib.IntN.{ℤ}
 use lib.ListN.{length, getD}
 use Rattle.rules.specs.Base.{if_then_else_}
 use Rattle.rules.specs.Constants.{half32, mostThreads}
 use Rattle.rules.specs.Program.{isHalt, Statement, Program}
-use Rattle.rules.specs.Format.{Bytes, Names}
+use Rattle.rules.specs.Format.{Bytes}
 use Rattle.rules.specs.Search as S
 use Rattle.rules.specs.Search.{ThreadState, Live, unread, states, before, effect, events}
 use Rattle.reader.specs.Facts.{threadIn, statementIn}
@@ -23,7 +22,8 @@ use Rattle.state.specs.Shape.{Sizes, threadOf, sizesOf, stateOf}
 use Rattle.state.specs.declared.State.{State}
 use Rattle.state.proofs.Shape.{state-thread, state-threads-length, sizes-threads, sizes-regs}
 use Rattle.search.specs.Plan.{Planned}
-use Rattle.search.specs.Fetch.{halts, namesOf, Fetches}
+use Rattle.search.specs.Fetch.{namesOf, Fetches}
+use Rattle.search.specs.Survey.{earliestOf, earliestAt}
 use Rattle.search.specs.Push.{Room}
 use Rattle.search.specs.Act.{Asks, OfProgram, Acts}
 use Rattle.search.specs.Turn.{liveAfter, Makes, heightOf, overOf, eventOf}
@@ -32,17 +32,18 @@ use Rattle.search.specs.declared.act.Event.{Event}
 use Rattle.search.specs.declared.act.Acted.{Acted}
 use Rattle.search.specs.declared.turn.Made.{Made}
 use Rattle.search.specs.declared.fetch.Fetched.{Fetched}
-use Rattle.search.proofs.fetch.Laws.{halts-same}
 use Rattle.search.proofs.TurnLaws.{live-step, events-halted, events-passed, events-before, over-makes}
 
--- the state s of the code, which has four threads; thread t of the program; what was fetched for it
-module _ (g : Program) (s : State) (t : ℕ) (there : t < length (g .threads)) (few : length (g .threads) ≤ mostThreads) (four : length (s .threads) ≡ mostThreads)
-    (bs : Bytes) (ns : Names) (f : Fetched) (fetched : Fetches bs ns (threadAt s t .at) (statementIn g t (threadAt s t .at)) f) where
+-- the state s of the code, which has four threads, and thread t of the program
+module _ (g : Program) (s : State) (t : ℕ) (there : t < length (g .threads)) (few : length (g .threads) ≤ mostThreads) (four : length (s .threads) ≡ mostThreads) where
   abbrev rules-state : S.State
   rules-state = stateOf (sizesOf g) s
 
   abbrev stands : ThreadState
   stands = threadOf (length (threadIn g t .regs)) (threadAt s t)
+
+  abbrev statement : Statement
+  statement = statementIn g t (threadAt s t .at)
 
   in-sizes : t < length (sizesOf g .regs)
   in-sizes = let a = sizes-threads g in omega arith
@@ -57,44 +58,45 @@ module _ (g : Program) (s : State) (t : ℕ) (there : t < length (g .threads)) (
   in-state = let a = state-threads-length (sizesOf g) s few-sizes four in let b = sizes-threads g in omega arith
 
   abbrev live-here : Live
-  live-here = record { thread = t; here = stands; statement = statementIn g t (threadAt s t .at) }
+  live-here = record { thread = t; here = stands; statement = statement }
 
   abbrev halted : Bool
-  halted = isHalt (statementIn g t (threadAt s t .at) .action)
+  halted = isHalt (statement .action)
 
   live-at : liveAfter g rules-state t ≡ (if halted then liveAfter g rules-state (suc t) else live-here ∷ liveAfter g rules-state (suc t))
   live-at =
       subst (λ (x : ThreadState). liveAfter g rules-state t ≡ (if isHalt (statementIn g t (x .at) .action) then liveAfter g rules-state (suc t)
       else record { thread = t; here = x; statement = statementIn g t (x .at) } ∷ liveAfter g rules-state (suc t))) thread-here (live-step g rules-state t stands there in-state)
 
-  is-halted : halted ≡ halts (f .action)
-  is-halted = sym (ap halts (fetched .action) ∙ halts-same _ _ (statementIn g t (threadAt s t .at) .action))
-
   module _ (latest bound : ℕ) where
     abbrev from : ℕ
-    from = max latest (threadAt s t .clock .low .0 + f .least)
+    from = max latest (threadAt s t .clock .low .0 + statement .least)
 
     abbrev made-from : ℕ → S.Turn
     made-from k = events rules-state latest bound (liveAfter g rules-state k)
 
-    same-from : max latest (stands .low + live-here .statement .least) ≡ from
-    same-from = ap (λ (n : ℕ). max latest (threadAt s t .clock .low .0 + n)) (sym (fetched .least))
-
-    pub no-event-halted : halts (f .action) ≡ true → made-from t ≡ made-from (suc t)
-    no-event-halted h = ap (events rules-state latest bound) live-at ∙ events-halted rules-state latest bound halted live-here (liveAfter g rules-state (suc t)) (is-halted ∙ h)
-
-    pub no-event-passed : halts (f .action) ≡ false → bound < from → made-from t ≡ made-from (suc t)
-    no-event-passed h l =
+    none-by : (h : Bool) → halted ≡ h → bound < max latest (earliestOf h (threadAt s t .clock .low .0) (statement .least)) → made-from t ≡ made-from (suc t)
+    none-by true e l = ap (events rules-state latest bound) live-at ∙ events-halted rules-state latest bound halted live-here (liveAfter g rules-state (suc t)) e
+    none-by false e l =
         ap (events rules-state latest bound) live-at
-        ∙ events-passed rules-state latest bound halted live-here (liveAfter g rules-state (suc t)) (is-halted ∙ h) (ap (λ (n : ℕ). leb n bound) same-from ∙ lt-leb from bound l)
+        ∙ events-passed rules-state latest bound halted live-here (liveAfter g rules-state (suc t)) e (lt-leb from bound l)
 
-    pub event-before : halts (f .action) ≡ false → from ≤ bound
-        → made-from t ≡ before (f .place) (effect rules-state t stands from bound (statementIn g t (threadAt s t .at) .action)) (made-from (suc t))
+    -- one that halts or may not move in time has no event
+    pub no-event : bound < max latest (earliestAt g s t) → made-from t ≡ made-from (suc t)
+    no-event = none-by halted refl
+
+    live-by : (h : Bool) → max latest (earliestOf h (threadAt s t .clock .low .0) (statement .least)) ≤ bound → bound < half32
+        → (h ≡ false) × (earliestOf h (threadAt s t .clock .low .0) (statement .least) ≡ threadAt s t .clock .low .0 + statement .least)
+    live-by true l u = absurd (omega arith)
+    live-by false l u = (refl, refl)
+
+    pub has-event : max latest (earliestAt g s t) ≤ bound → bound < half32 → (halted ≡ false) × (earliestAt g s t ≡ threadAt s t .clock .low .0 + statement .least)
+    has-event = live-by halted
+
+    event-before : halted ≡ false → from ≤ bound → made-from t ≡ before (statement .place) (effect rules-state t stands from bound (statement .action)) (made-from (suc t))
     event-before h l =
         ap (events rules-state latest bound) live-at
-        ∙ events-before rules-state latest bound halted live-here (liveAfter g rules-state (suc t)) (is-halted ∙ h) (ap (λ (n : ℕ). leb n bound) same-from ∙ le-leb from bound l)
-        ∙ ap (λ (p : ℕ). before p (effect rules-state t stands (max latest (stands .low + live-here .statement .least)) bound (live-here .statement .action)) (made-from (suc t))) (sym (fetched .place))
-        ∙ ap (λ (n : ℕ). before (f .place) (effect rules-state t stands n bound (live-here .statement .action)) (made-from (suc t))) same-from
+        ∙ events-before rules-state latest bound halted live-here (liveAfter g rules-state (suc t)) h (le-leb from bound l)
 
 -- ---- what the code asks of a thread's event, and what it makes of it
 
@@ -129,14 +131,16 @@ module _ (bs : Bytes) (g : Program) (p : Plan) (places : List ℕ) (r : Planned 
         (of-program, (statementIn g t (threadAt s t .at), fetched)),
       )
 
-  pub event-makes : length (s .threads) ≡ mostThreads → (latest : ℕ) → halts (f .action) ≡ false → from ≡ max latest (threadAt s t .clock .low .0 + f .least) → from ≤ to
+  pub event-makes : length (s .threads) ≡ mostThreads → (latest : ℕ) → from ≡ max latest (earliestAt g s t) → from ≤ to → to < half32
       → (slots : ℕ) (c d : List ℤ) (height : ℕ) (v : Event) → v ≡ its-event → (k : Acted)
       → Acts (sizesOf g) slots c d height k
       (effect (stateOf (sizesOf g) s) (v .thread) (threadOf (v .registers) (threadAt s (v .thread))) (v .from .0) (v .to .0) (statementIn g t (threadAt s t .at) .action))
       → (b : List ℤ) (h : ℕ) (later m : Made) → height ≡ heightOf later h → m ≡ overOf later k (f .place)
       → Makes (sizesOf g) slots b h c later (events (stateOf (sizesOf g) s) latest to (liveAfter g (stateOf (sizesOf g) s) (suc t)))
       → Makes (sizesOf g) slots b h d m (events (stateOf (sizesOf g) s) latest to (liveAfter g (stateOf (sizesOf g) s) t))
-  event-makes four latest live q l slots c d height v e k acts b h later m eh em makes =
+  event-makes four latest q l u slots c d height v e k acts b h later m eh em makes =
+      let has = has-event g s t there (r .facts .threads-few) four latest to (subst (λ (n : ℕ). n ≤ to) q l) u in
+      let q′ : from ≡ max latest (threadAt s t .clock .low .0 + statementIn g t (threadAt s t .at) .least) = q ∙ ap (max latest) (has .1) in
       let z = sizesOf g in
       let x = stateOf z s in
       let action = statementIn g t (threadAt s t .at) .action in
@@ -148,8 +152,9 @@ module _ (bs : Bytes) (g : Program) (p : Plan) (places : List ℕ) (r : Planned 
       let a₃ : Acts z slots c d (heightOf later h) k N = subst (λ (n : ℕ). Acts z slots c d n k N) eh a₂ in
       let made : Makes z slots b h d (overOf later k (f .place)) (before (f .place) N T) = over-makes z slots b c d h later T (f .place) k N makes a₃ in
       let same : events x latest to (liveAfter g x t) ≡ before (f .place) N T =
-      event-before g s t there (r .facts .threads-few) four bs (namesOf g t) f fetched latest to live (subst (λ (n : ℕ). n ≤ to) q l)
-      ∙ ap (λ (n : ℕ). before (f .place) (effect x t (threadOf (length (threadIn g t .regs)) (threadAt s t)) n to action) T) (sym q) in
+      event-before g s t there (r .facts .threads-few) four latest to (has .0) (subst (λ (n : ℕ). n ≤ to) q′ l)
+      ∙ ap (λ (n : ℕ). before n (effect x t (threadOf (length (threadIn g t .regs)) (threadAt s t)) (max latest (threadAt s t .clock .low .0 + statementIn g t (threadAt s t .at) .least)) to action) T) (sym (fetched .place))
+      ∙ ap (λ (n : ℕ). before (f .place) (effect x t (threadOf (length (threadIn g t .regs)) (threadAt s t)) n to action) T) (sym q′) in
       subst (λ (w : Made). Makes z slots b h d w (events x latest to (liveAfter g x t))) (sym em) (subst (Makes z slots b h d (overOf later k (f .place))) (sym same) made)
 
 pub acts-length : (z : Sizes) (slots : ℕ) (b c : List ℤ) (h : ℕ) (k : Acted) (n : S.Next) → Acts z slots b c h k n → length c ≡ length b

@@ -2,16 +2,20 @@
 use mathlib.Core.Path.{_≡_}
 use mathlib.Core.Bool.{Bool, true, false, _&&_, not}
 use mathlib.Core.List.{List, [], _∷_}
-use Prim.Native.Nat.{ℕ, _+_, _<_, min, max}
-use lib.ListN.{getD}
+use Prim.Native.Nat.{ℕ, _+_, _≤_, _<_, min, max}
+use lib.ListN.{length, getD}
 use Rattle.rules.specs.Base.{if_then_else_}
 use Rattle.rules.specs.Constants.{mostLocks}
 use Rattle.rules.specs.Base.{all}
 use Rattle.rules.specs.Lock.{Owner, mayTake}
+use Rattle.rules.specs.Program.{isHalt, Program}
 use Rattle.rules.specs.Search.{ThreadState, Live, greatestLow, greatestHigh, turnBound, waits}
 use Rattle.reader.specs.declared.decoding.Action.{Action}
 use Rattle.reader.specs.declared.decoding.Action.the-variants.{Halt, Skip, Assign, Branch, Store, Load, Unlock, Lock}
+use Rattle.reader.specs.Facts.{statementIn}
 use Rattle.state.specs.declared.Clock.{Clock}
+use Rattle.state.specs.declared.State.{State}
+use Rattle.state.specs.Access.{threadAt}
 use Rattle.state.specs.Shape.{ownerOf}
 use Rattle.search.specs.Fetch.{halts}
 use Rattle.search.specs.declared.fetch.Fetched.{Fetched}
@@ -73,3 +77,21 @@ unfoldable pub addThread : Survey → ℕ → Clock → Fetched → List ℕ →
 addThread a t x f os =
     let b = addClock a (x .low .0) (x .high .0) in
     if halts (f .action) then b else addLive b (x .high .0 + f .greatest) (waitsAt t (f .action) os)
+
+-- ---- the earliest tick of a thread's event: past every bound for one that halts
+
+abbrev pub never : ℕ
+never = 4294967295
+
+-- by whether it halts, its clock's low end and its statement's least time
+abbrev pub earliestOf : Bool → ℕ → ℕ → ℕ
+earliestOf halted low least = if halted then never else low + least
+
+abbrev pub earliestAt : Program → State → ℕ → ℕ
+earliestAt g s t =
+    let x = statementIn g t (threadAt s t .at) in
+    earliestOf (isHalt (x .action)) (threadAt s t .clock .low .0) (x .least)
+
+-- what a row of four numbers says of the threads from number t on
+abbrev pub EarliestFrom : Program → State → ℕ → List ℕ → Type 0
+EarliestFrom g s t ticks = (k : ℕ) → t ≤ k → k < length (g .threads) → getD ticks k 0 ≡ earliestAt g s k

@@ -23,8 +23,8 @@ ghost use Rattle.reader.specs.Facts.{statementIn};
 ghost use Rattle.state.specs.Shape.{ownersOf, threadOf, sizesOf, stateOf};
 ghost use Rattle.state.specs.Cells.{decode};
 ghost use Rattle.search.specs.Plan.{programIn, Ready};
-ghost use Rattle.search.specs.Fetch.{namesOf, Fetches};
-ghost use Rattle.search.specs.Survey.{Surveys, LockThere, waitsAt, addLive, addClock, addThread};
+ghost use Rattle.search.specs.Fetch.{halts, namesOf, Fetches};
+ghost use Rattle.search.specs.Survey.{Surveys, LockThere, waitsAt, addLive, addClock, addThread, earliestOf, EarliestFrom};
 ghost use Rattle.search.specs.Turn.{liveAfter};
 
 // Whether some thread is live; whether every live one waits for a lock; the turn's bound, where some thread is live; the
@@ -36,6 +36,15 @@ pub struct Survey {
     pub low: u32,
     pub high: u32,
 }
+
+// The survey of a state's threads, and of each thread the earliest tick of its event.
+pub struct Threads {
+    pub survey: Survey,
+    pub earliest: [u32; 4],
+}
+
+// Past every bound: a thread that halts has no event.
+const NEVER: u32 = 4294967295;
 
 pub fn greater(a: u32, b: u32) -> u32
     ensures { λ r. ⌜ r ≡ max a b ⌝ }
@@ -106,15 +115,27 @@ fn with_thread(a: Survey, t: usize, clock: Clock, f: Fetched, cells: &[i32; 100]
     with_live(b, due, w)
 }
 
+fn earliest_tick(clock: Clock, f: Fetched) -> u32
+    requires { ⌜ (clock .low .0 < half32) × (f .least < 65536) ⌝ }
+    ensures { λ r. ⌜ r ≡ earliestOf (halts (f .action)) (clock .low .0) (f .least) ⌝ }
+{
+    let action = f.action;
+    if is_halt(action) {
+        return NEVER;
+    }
+    clock.low.0 + f.least
+}
+
 pub(crate) fn survey_threads(
     sheet: &[u8],
     places: &[u16; 256],
     plan: Plan,
     cells: &[i32; 100],
-) -> Survey
+) -> Threads
     requires { ⌜ Ready (now sheet) plan (now places) ⌝ }
     ensures { λ r. ⌜ Surveys (stateOf (sizesOf (programIn (now (sheet .entry)))) (decode (now (cells .entry))) .owners) (liveAfter (programIn (now (sheet .entry))) (stateOf (sizesOf (programIn (now (sheet .entry)))) (decode (now (cells .entry)))) 0)
-        (stateOf (sizesOf (programIn (now (sheet .entry)))) (decode (now (cells .entry))) .threads) r ⌝ }
+        (stateOf (sizesOf (programIn (now (sheet .entry)))) (decode (now (cells .entry))) .threads) (r .survey) ⌝ }
+    ensures { λ r. ⌜ EarliestFrom (programIn (now (sheet .entry))) (decode (now (cells .entry))) 0 (r .earliest) ⌝ }
 {
     let mut a = Survey {
         live: false,
@@ -123,11 +144,17 @@ pub(crate) fn survey_threads(
         low: 0,
         high: 0,
     };
+    let mut earliest: [u32; 4] = [NEVER; 4];
     let mut t = plan.threads;
     while 0 < t {
         t -= 1;
         let f = fetch(sheet, places, plan, t, at_of(cells, t));
-        a = with_thread(a, t, clock_of(cells, t), f, cells);
+        let clock = clock_of(cells, t);
+        a = with_thread(a, t, clock, f, cells);
+        earliest[t] = earliest_tick(clock, f);
     }
-    a
+    Threads {
+        survey: a,
+        earliest: earliest,
+    }
 }

@@ -3,14 +3,12 @@ use crate::act::Acted;
 use crate::act::Event;
 use crate::act::act;
 use crate::fetch::fetch;
-use crate::fetch::is_halt;
 use crate::plan::Plan;
 use crate::survey::greater;
 use crate::survey::survey_threads;
 use refusal::Refusal;
 use state::Time;
 use state::at_of;
-use state::clock_of;
 ghost use mathlib.Core.Path.{_≡_};
 ghost use mathlib.Core.Bool.{Bool, true, false, _&&_, not};
 ghost use mathlib.Core.List.{List, [], _∷_};
@@ -27,6 +25,7 @@ ghost use Rattle.state.specs.Shape.{sizesOf, stateOf};
 ghost use Rattle.state.specs.Cells.{AllTimed, decode};
 ghost use Rattle.search.specs.Plan.{programIn, Ready};
 ghost use Rattle.search.specs.Push.{Room};
+ghost use Rattle.search.specs.Survey.{earliestAt, EarliestFrom};
 ghost use Rattle.search.specs.Turn.{liveAfter, Makes, heightOf, Turns, overOf, eventOf, turnedOf};
 
 // What the events of the last threads made: the new height, or the fault of the first of them that has one.
@@ -73,28 +72,24 @@ fn before(
     cells: &[i32; 100],
     t: usize,
     latest: u32,
+    earliest: u32,
     bound: u32,
     later: Made,
     work: &mut [i32],
     height: usize,
     slots: usize,
 ) -> Made
-    requires { ⌜ Ready (now sheet) plan (now places) × ((t < length (programIn (now sheet) .threads)) × ((bound < half32) × ((latest < half32) × (Room slots (now work) × (height ≤ slots + 1))))) ⌝ }
+    requires { ⌜ Ready (now sheet) plan (now places) × ((t < length (programIn (now sheet) .threads)) × ((earliest ≡ earliestAt (programIn (now sheet)) (decode (now cells)) t) × ((bound < half32) × ((latest < half32) × (Room slots (now work) × (height ≤ slots + 1)))))) ⌝ }
     ensures { λ r. ⌜ ((b : List ℤ) (h : ℕ) → height ≡ heightOf later h
         → Makes (sizesOf (programIn (now (sheet .entry)))) slots b h (now (work .entry)) later (events (stateOf (sizesOf (programIn (now (sheet .entry)))) (decode (now (cells .entry)))) latest bound (liveAfter (programIn (now (sheet .entry))) (stateOf (sizesOf (programIn (now (sheet .entry)))) (decode (now (cells .entry)))) (suc t)))
         → Makes (sizesOf (programIn (now (sheet .entry)))) slots b h (now (work .exit)) r (events (stateOf (sizesOf (programIn (now (sheet .entry)))) (decode (now (cells .entry)))) latest bound (liveAfter (programIn (now (sheet .entry))) (stateOf (sizesOf (programIn (now (sheet .entry)))) (decode (now (cells .entry)))) t))) ⌝ }
     ensures { λ r. ⌜ length (now (work .exit)) ≡ length (now (work .entry)) ⌝ }
 {
-    let f = fetch(sheet, places, plan, t, at_of(cells, t));
-    let action = f.action;
-    if is_halt(action) {
-        return later;
-    }
-    let clock = clock_of(cells, t);
-    let from = greater(latest, clock.low.0 + f.least);
+    let from = greater(latest, earliest);
     if bound < from {
         return later;
     }
+    let f = fetch(sheet, places, plan, t, at_of(cells, t));
     let v = event(plan, t, from, bound);
     let r = act(sheet, cells, v, f, work, height, slots);
     over(later, r, f.place)
@@ -115,12 +110,13 @@ fn expand(
     plan: Plan,
     cells: &[i32; 100],
     latest: u32,
+    earliest: [u32; 4],
     bound: u32,
     work: &mut [i32],
     height: usize,
     slots: usize,
 ) -> Made
-    requires { ⌜ Ready (now sheet) plan (now places) × ((bound < half32) × ((latest < half32) × (Room slots (now work) × (height ≤ slots)))) ⌝ }
+    requires { ⌜ Ready (now sheet) plan (now places) × (EarliestFrom (programIn (now sheet)) (decode (now cells)) 0 earliest × ((bound < half32) × ((latest < half32) × (Room slots (now work) × (height ≤ slots))))) ⌝ }
     ensures { λ r. ⌜ Makes (sizesOf (programIn (now (sheet .entry)))) slots (now (work .entry)) height (now (work .exit)) r
         (events (stateOf (sizesOf (programIn (now (sheet .entry)))) (decode (now (cells .entry)))) latest bound (liveAfter (programIn (now (sheet .entry))) (stateOf (sizesOf (programIn (now (sheet .entry)))) (decode (now (cells .entry)))) 0)) ⌝ }
 {
@@ -136,6 +132,7 @@ fn expand(
             cells,
             t,
             latest,
+            earliest[t],
             bound,
             made,
             work,
@@ -174,7 +171,9 @@ pub(crate) fn turn(
     ensures { λ r. ⌜ Turns (sizesOf (programIn (now (sheet .entry)))) slots (now (work .entry)) height (now (work .exit)) r
         (S.turn (programIn (now (sheet .entry))) (stateOf (sizesOf (programIn (now (sheet .entry)))) (decode (now (cells .entry))))) ⌝ }
 {
-    let a = survey_threads(sheet, places, plan, cells);
+    let threads = survey_threads(sheet, places, plan, cells);
+    let a = threads.survey;
+    let earliest = threads.earliest;
     if !a.live {
         return Turned::Ended(a.low, a.high);
     }
@@ -190,6 +189,7 @@ pub(crate) fn turn(
         plan,
         cells,
         a.low,
+        earliest,
         a.bound,
         work,
         height,

@@ -3,10 +3,10 @@ use mathlib.Core.Path.{_≡_, refl, sym, ap, subst, _∙_}
 use mathlib.Core.Bool.{Bool, true, false, _&&_, not}
 use mathlib.Core.Option.{none}
 use mathlib.Core.List.{List, [], _∷_}
-use Prim.Native.Nat.{ℕ, suc, _+_, _-_, _≤_, _<_, min, max}
+use Prim.Native.Nat.{ℕ, zero, suc, _+_, _-_, _≤_, _<_, min, max}
 use native.Mathlib.Omega.{arith}
-use lib.ListN.{length, getD, drop, drop-of-length-le}
-use lib.Seq.{drop-cons}
+use lib.ListN.{length, getD, set, drop, drop-of-length-le}
+use lib.Seq.{drop-cons, getD-set-same, getD-set-other}
 use denote.Enum.Declared.{tagOf}
 use types.Run.{OneOf, miss}
 use Rattle.rules.specs.Base.{if_then_else_, all}
@@ -31,7 +31,7 @@ use Rattle.search.specs.declared.fetch.Fetched.{Fetched}
 use Rattle.search.specs.declared.survey.Survey.{Survey}
 use Rattle.search.specs.Plan.{programIn, Ready}
 use Rattle.search.specs.Fetch.{halts, namesOf, Fetches}
-use Rattle.search.specs.Survey.{anyLive, boundOf, Surveys, LockThere, waitsAt, addLive, addClock, addThread}
+use Rattle.search.specs.Survey.{anyLive, boundOf, Surveys, LockThere, waitsAt, addLive, addClock, addThread, earliestOf, earliestAt, EarliestFrom}
 use Rattle.search.specs.Turn.{liveAfter}
 use Rattle.search.proofs.fetch.Laws.{halts-same}
 
@@ -191,3 +191,30 @@ module _ {sheet : Bytes} {p : Plan} {places : List ℕ} {s : State} (w : Ready s
 pub survey-done : {g : Program} {s : State} {t : ℕ} {a : Survey} → Surveyed g s t a → t ≤ 0
     → Surveys (stateOf (sizesOf g) s .owners) (liveAfter g (stateOf (sizesOf g) s) 0) (stateOf (sizesOf g) s .threads) a
 survey-done {g} {s} {t} {a} i h = let end : t ≡ 0 = omega arith in subst (λ (k : ℕ). SurveyedFrom g s k a) end (i .found)
+
+-- ---- the earliest ticks
+
+earliest-same : {sheet : Bytes} {ns : Names} {at : ℕ} {x : R.Statement} {f : Fetched} (low : ℕ) → Fetches sheet ns at x f
+    → earliestOf (halts (f .action)) low (f .least) ≡ earliestOf (isHalt (x .action)) low (x .least)
+earliest-same {sheet} {ns} {at} {x} low w =
+    λ i. earliestOf ((ap halts (w .action) ∙ halts-same (x .place + 9) (bodyEnd sheet (x .place)) (x .action)) i) low (w .least i)
+
+pub earliest-start : (g : Program) (s : State) (t : ℕ) (ticks : List ℕ) → length (g .threads) ≤ t → EarliestFrom g s t ticks
+earliest-start g s t ticks h k l r = absurd (omega arith)
+
+-- a number from t - 1 on is that one, or from t on
+at-or-above : {P : Type 0} (k t : ℕ) → t - 1 ≤ k → 0 < t → (k ≡ t - 1 → P) → (t ≤ k → P) → P
+at-or-above k zero l h f g = absurd (omega arith)
+at-or-above zero (suc zero) l h f g = f refl
+at-or-above (suc k) (suc zero) l h f g = g (omega arith)
+at-or-above zero (suc (suc t)) l h f g = absurd (omega arith)
+at-or-above (suc k) (suc (suc t)) l h f g = at-or-above k (suc t) (omega arith) (omega arith) (λ e. f (omega arith)) (λ q. g (omega arith))
+
+-- the thread before t
+pub earliest-again : (g : Program) (s : State) (t : ℕ) (ticks : List ℕ) (x low : ℕ) {sheet : Bytes} {f : Fetched} → t - 1 < length ticks → 0 < t
+    → Fetches sheet (namesOf g (t - 1)) (threadAt s (t - 1) .at) (statementIn g (t - 1) (threadAt s (t - 1) .at)) f → low ≡ threadAt s (t - 1) .clock .low .0
+    → x ≡ earliestOf (halts (f .action)) low (f .least) → EarliestFrom g s t ticks → EarliestFrom g s (t - 1) (set ticks (t - 1) x)
+earliest-again g s t ticks x low {sheet} {f} room more w el ex before k l r =
+    at-or-above k t l more (λ e. ap (λ (i : ℕ). getD (set ticks (t - 1) x) i 0) e ∙ getD-set-same ticks (t - 1) x 0 room
+    ∙ ex ∙ ap (λ (n : ℕ). earliestOf (halts (f .action)) n (f .least)) el ∙ earliest-same (threadAt s (t - 1) .clock .low .0) w ∙ ap (earliestAt g s) (sym e))
+    (λ q. getD-set-other ticks (t - 1) k x 0 (λ e. omega arith) ∙ before k q r)

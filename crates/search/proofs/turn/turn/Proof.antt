@@ -12,65 +12,65 @@ use Rattle.search.proofs.survey.survey_threads.Reads as survey-threads-
 use Rattle.search.proofs.turn.as_turned.Reads as as-turned-reads
 use Rattle.search.proofs.turn.expand.Reads as expand-reads
 
--- src/turn.rt:177:9
+-- src/turn.rt:174:9
 survey-threads-requires : tie.Need-survey-threads-requires
 survey-threads-requires c κs = c .before .pre .0
 
--- src/turn.rt:179:9
+-- src/turn.rt:178:9
 returns : tie.Need-returns
-returns c = let a = c .before .before .before .before .args in
+returns c = let a = c .before .before .before .before .before .before .args in
     let g = programIn (a .sheet .now) in
     let s = decode (a .cells .now) in
-    let v = c .before .before .survey-threads .result in
-    let sv = c .before .before .survey-threads .ensures in
+    let v = c .before .before .before .before .survey-threads .result .survey in
+    let sv = c .before .before .before .before .survey-threads .ensures .0 in
     turn-ended g (sizesOf g) s (a .slots) (a .work .now) (a .height) v sv (c .if1 .taken)
 
--- src/turn.rt:182:9
+-- src/turn.rt:181:9
 returns-2 : tie.Need-returns-2
-returns-2 c = let a = c .before .before .before .before .before .args in
+returns-2 c = let a = c .before .before .before .before .before .before .before .args in
     let g = programIn (a .sheet .now) in
     let s = decode (a .cells .now) in
-    let v = c .before .before .before .survey-threads .result in
-    let sv = c .before .before .before .survey-threads .ensures in
+    let v = c .before .before .before .before .before .survey-threads .result .survey in
+    let sv = c .before .before .before .before .before .survey-threads .ensures .0 in
     turn-stuck g (sizesOf g) s (a .slots) (a .work .now) (a .height) v sv (c .before .if1 .left) (c .if2 .taken)
 
--- src/turn.rt:185:9
+-- src/turn.rt:184:9
 returns-3 : tie.Need-returns-3
-returns-3 c = let a = c .before .before .before .before .before .before .before .before .args in
+returns-3 c = let a = c .before .before .before .before .before .before .before .before .before .before .args in
     let g = programIn (a .sheet .now) in
     let s = decode (a .cells .now) in
-    let v = c .before .before .before .before .before .before .survey-threads .result in
-    let sv = c .before .before .before .before .before .before .survey-threads .ensures in
-    turn-past g (sizesOf g) s (a .slots) (a .work .now) (a .height) v sv (c .before .before .before .before .if1 .left) (c .before .before .before .if2 .left) (a .plan .limit) (c .before .before .before .before .before .before .before .before .pre .0 .limit) (c .if3 .taken)
+    let v = c .before .before .before .before .before .before .before .before .survey-threads .result .survey in
+    let sv = c .before .before .before .before .before .before .before .before .survey-threads .ensures .0 in
+    turn-past g (sizesOf g) s (a .slots) (a .work .now) (a .height) v sv (c .before .before .before .before .if1 .left) (c .before .before .before .if2 .left) (a .plan .limit) (c .before .before .before .before .before .before .before .before .before .before .pre .0 .limit) (c .if3 .taken)
 
--- src/turn.rt:187:9
+-- src/turn.rt:186:9
 expand-requires : tie.Need-expand-requires
-expand-requires c κs = let a = c .before .before .before .before .before .before .before .before .before .args in
+expand-requires c κs = let a = c .before .before .before .before .before .before .before .before .before .before .before .args in
     let g = programIn (a .sheet .now) in
     let s = decode (a .cells .now) in
-    let v = c .before .before .before .before .before .before .before .survey-threads .result in
-    let sv = c .before .before .before .before .before .before .before .survey-threads .ensures in
-    let small = limit-small (a .sheet .now) g (a .plan) (a .places .now) (c .before .before .before .before .before .before .before .before .before .pre .0) in
+    let v = c .before .before .before .before .before .before .before .before .before .survey-threads .result .survey in
+    let sv = c .before .before .before .before .before .before .before .before .before .survey-threads .ensures .0 in
+    let small = limit-small (a .sheet .now) g (a .plan) (a .places .now) (c .before .before .before .before .before .before .before .before .before .before .before .pre .0) in
     let low = c .before .if3 .left in
-    (c .before .before .before .before .before .before .before .before .before .pre .0, (omega arith, (low-small g s (c .before .before .before .before .before .before .before .before .before .pre .1 .0) (c .before .before .before .before .before .before .before .before .before .pre .0 .facts .threads-few) v sv, (c .before .before .before .before .before .before .before .before .before .pre .1 .1 .0, c .before .before .before .before .before .before .before .before .before .pre .1 .1 .1))))
+    (c .before .before .before .before .before .before .before .before .before .before .before .pre .0, (c .before .before .before .before .before .before .before .before .before .survey-threads .ensures .1, (omega arith, (low-small g s (c .before .before .before .before .before .before .before .before .before .before .before .pre .1 .0) (c .before .before .before .before .before .before .before .before .before .before .before .pre .0 .facts .threads-few) v sv, (c .before .before .before .before .before .before .before .before .before .before .before .pre .1 .1 .0, c .before .before .before .before .before .before .before .before .before .before .before .pre .1 .1 .1)))))
 
 -- src/turn.rt:198:5
 as-turned-requires : tie.Need-as-turned-requires
 as-turned-requires c κs = tt
 
--- src/turn.rt:164:1
+-- src/turn.rt:161:1
 same-length : tie.Need-same-length
 same-length c = search needs
 
--- src/turn.rt:164:1
+-- src/turn.rt:161:1
 returns-4 : tie.Need-returns-4
-returns-4 c = let a = c .before .before .before .before .before .before .before .before .before .before .before .before .args in
+returns-4 c = let a = c .before .before .before .before .before .before .before .before .before .before .before .before .before .before .args in
     let g = programIn (a .sheet .now) in
     let s = decode (a .cells .now) in
-    let v = c .before .before .before .before .before .before .before .before .before .before .survey-threads .result in
-    let sv = c .before .before .before .before .before .before .before .before .before .before .survey-threads .ensures in
-    turn-follows g (sizesOf g) s (a .slots) (a .work .now) (a .height) v sv (c .before .before .before .before .before .before .before .before .if1 .left) (c .before .before .before .before .before .before .before .if2 .left) (a .plan .limit) (c .before .before .before .before .before .before .before .before .before .before .before .before .pre .0 .limit) (c .before .before .before .before .if3 .left)
-    (c .before .before .expand .last .1 .1 .1 .1 .1 .1 .0) (c .before .before .expand .result) (c .as-turned .result) (c .before .before .expand .ensures) (c .as-turned .ensures)
+    let v = c .before .before .before .before .before .before .before .before .before .before .before .before .survey-threads .result .survey in
+    let sv = c .before .before .before .before .before .before .before .before .before .before .before .before .survey-threads .ensures .0 in
+    turn-follows g (sizesOf g) s (a .slots) (a .work .now) (a .height) v sv (c .before .before .before .before .before .before .before .before .if1 .left) (c .before .before .before .before .before .before .before .if2 .left) (a .plan .limit) (c .before .before .before .before .before .before .before .before .before .before .before .before .before .before .pre .0 .limit) (c .before .before .before .before .if3 .left)
+    (c .before .before .expand .last .1 .1 .1 .1 .1 .1 .1 .0) (c .before .before .expand .result) (c .as-turned .result) (c .before .before .expand .ensures) (c .as-turned .ensures)
 
 pub turn-spec : {M : Type 1} → statement M
 turn-spec =
