@@ -1,7 +1,10 @@
 // The event of one thread: the states that follow go on the stack, the first made uppermost.
 use crate::fetch::Fetched;
-use crate::push::next_slot;
-use crate::push::one_more;
+use crate::push::push_moved;
+use crate::push::push_owner;
+use crate::push::push_register;
+use crate::push::push_registers;
+use crate::push::push_variable;
 use expression::Check;
 use expression::assigned_value;
 use expression::branch_on;
@@ -9,33 +12,22 @@ use interval::Reading;
 use interval::Span;
 use reader::decoding::Action;
 use refusal::Refusal;
-use state::Clock;
-use state::Move;
-use state::NUMBERS_PER_STATE;
 use state::Time;
 use state::at_of;
 use state::owner_of;
-use state::put_moved;
-use state::put_owner;
-use state::put_register;
-use state::put_registers;
-use state::put_variable;
 use state::register_of;
 use state::registers_of;
 use state::variable_of;
 ghost use mathlib.Core.Path.{_≡_};
-ghost use mathlib.Core.Bool.{Bool, true, false};
-ghost use mathlib.Core.List.{List, [], _∷_, _++_};
-ghost use mathlib.Core.Option.{none};
-ghost use Prim.Native.Nat.{ℕ, suc, _+_, _≤_, _<_};
+ghost use mathlib.Core.Bool.{true};
+ghost use mathlib.Core.List.{[], _∷_};
+ghost use Prim.Native.Nat.{suc, _+_, _≤_, _<_};
 ghost use lib.ListN.{length, getD, set};
 ghost use Rattle.rules.specs.Constants.{deepest, mostThreads, mostStatements, mostRegisters, mostVariables, mostLocks};
-ghost use Rattle.rules.specs.Refusal.{Result};
 ghost use Rattle.rules.specs.Program as P;
 ghost use Rattle.rules.specs.Program.{Statement};
-ghost use Rattle.rules.specs.Lock.{mayTake, afterUnlock, afterLock};
+ghost use Rattle.rules.specs.Lock.{mayTake, afterUnlock};
 ghost use Rattle.rules.specs.Format.{got, readArith, readCondition};
-ghost use Rattle.rules.specs.Search as S;
 ghost use Rattle.rules.specs.Search.{effect, unlessEmpty};
 ghost use Rattle.interval.specs.Shape.{intervalOf};
 ghost use Rattle.expression.specs.Evaluation.{regsOf};
@@ -47,7 +39,7 @@ ghost use Rattle.state.specs.Cells.{decode};
 ghost use Rattle.search.specs.Plan.{programIn};
 ghost use Rattle.search.specs.Fetch.{namesOf, Fetches};
 ghost use Rattle.search.specs.Push.{Pushed};
-ghost use Rattle.search.specs.Act.{Asks, OfProgram, Acts, moveTo, movedBy, movedWith};
+ghost use Rattle.search.specs.Act.{Asks, OfProgram, Acts, movedBy};
 
 // An event of thread t, which has n registers, between two ticks.
 pub struct Event {
@@ -62,23 +54,6 @@ pub enum Acted {
     Height(usize),
 }
 
-// The event's thread comes to a statement.
-fn moving(v: Event, at: u8) -> Move
-    ensures { λ r. ⌜ r ≡ moveTo v at ⌝ }
-{
-    let from = v.from;
-    let to = v.to;
-    let clock = Clock {
-        low: from,
-        high: to,
-    };
-    Move {
-        thread: v.thread,
-        at: at,
-        clock: clock,
-    }
-}
-
 // The number of the next statement.
 fn next(at: u8) -> u8
     requires { ⌜ at < mostStatements ⌝ }
@@ -86,107 +61,6 @@ fn next(at: u8) -> u8
 {
     at + 1
 }
-
-// ---- the new state in its slot
-
-fn push_moved(
-    cells: &[i32; 100],
-    v: Event,
-    at: u8,
-    work: &mut [i32],
-    height: usize,
-    slots: usize,
-) -> usize
-    requires { ⌜ Asks v (now work) height slots ⌝ }
-    ensures { λ k. ⌜ ((z : Sizes) → Pushed z slots (now (work .entry)) (now (work .exit)) height k
-        (movedBy z (decode (now (cells .entry))) v at (regsOf (getD (z .regs) (v .thread) 0) (threadAt (decode (now (cells .entry))) (v .thread) .regs)) ∷ [])) ⌝ }
-{
-    let m = moving(v, at);
-    let from = next_slot(height, slots) * NUMBERS_PER_STATE;
-    put_moved(&mut work[from..from + NUMBERS_PER_STATE], cells, m);
-    one_more(height, slots)
-}
-
-fn push_register(
-    cells: &[i32; 100],
-    v: Event,
-    at: u8,
-    r: usize,
-    i: Span,
-    work: &mut [i32],
-    height: usize,
-    slots: usize,
-) -> usize
-    requires { ⌜ Asks v (now work) height slots × (r < mostRegisters) ⌝ }
-    ensures { λ k. ⌜ ((z : Sizes) → Pushed z slots (now (work .entry)) (now (work .exit)) height k
-        (movedBy z (decode (now (cells .entry))) v at (set (regsOf (getD (z .regs) (v .thread) 0) (threadAt (decode (now (cells .entry))) (v .thread) .regs)) r (intervalOf i)) ∷ [])) ⌝ }
-{
-    let m = moving(v, at);
-    let from = next_slot(height, slots) * NUMBERS_PER_STATE;
-    put_register(&mut work[from..from + NUMBERS_PER_STATE], cells, m, r, i);
-    one_more(height, slots)
-}
-
-fn push_registers(
-    cells: &[i32; 100],
-    v: Event,
-    at: u8,
-    regs: [Span; 8],
-    work: &mut [i32],
-    height: usize,
-    slots: usize,
-) -> usize
-    requires { ⌜ Asks v (now work) height slots ⌝ }
-    ensures { λ k. ⌜ ((z : Sizes) → Pushed z slots (now (work .entry)) (now (work .exit)) height k
-        (movedBy z (decode (now (cells .entry))) v at (regsOf (getD (z .regs) (v .thread) 0) regs) ∷ [])) ⌝ }
-{
-    let m = moving(v, at);
-    let from = next_slot(height, slots) * NUMBERS_PER_STATE;
-    put_registers(&mut work[from..from + NUMBERS_PER_STATE], cells, m, regs);
-    one_more(height, slots)
-}
-
-fn push_variable(
-    cells: &[i32; 100],
-    v: Event,
-    at: u8,
-    x: usize,
-    i: Span,
-    work: &mut [i32],
-    height: usize,
-    slots: usize,
-) -> usize
-    requires { ⌜ Asks v (now work) height slots × (x < mostVariables) ⌝ }
-    ensures { λ k. ⌜ ((z : Sizes) → Pushed z slots (now (work .entry)) (now (work .exit)) height k
-        (movedWith z (decode (now (cells .entry))) v at (set (stateOf z (decode (now (cells .entry))) .vars) x (intervalOf i)) (stateOf z (decode (now (cells .entry))) .owners) ∷ [])) ⌝ }
-{
-    let m = moving(v, at);
-    let from = next_slot(height, slots) * NUMBERS_PER_STATE;
-    put_variable(&mut work[from..from + NUMBERS_PER_STATE], cells, m, x, i);
-    one_more(height, slots)
-}
-
-fn push_owner(
-    cells: &[i32; 100],
-    v: Event,
-    at: u8,
-    l: usize,
-    o: u8,
-    work: &mut [i32],
-    height: usize,
-    slots: usize,
-) -> usize
-    requires { ⌜ Asks v (now work) height slots × (l < mostLocks) ⌝ }
-    ensures { λ k. ⌜ ((z : Sizes) → Pushed z slots (now (work .entry)) (now (work .exit)) height k
-        (movedWith z (decode (now (cells .entry))) v at (stateOf z (decode (now (cells .entry))) .vars) (set (stateOf z (decode (now (cells .entry))) .owners) l (ownerOf o)) ∷ [])) ⌝ }
-{
-    let m = moving(v, at);
-    let from = next_slot(height, slots) * NUMBERS_PER_STATE;
-    put_owner(&mut work[from..from + NUMBERS_PER_STATE], cells, m, l, o);
-    one_more(height, slots)
-}
-
-// ---- the statements
 
 fn skip(cells: &[i32; 100], v: Event, work: &mut [i32], height: usize, slots: usize) -> usize
     requires { ⌜ Asks v (now work) height slots × (threadAt (decode (now cells)) (v .thread) .at < mostStatements) ⌝ }

@@ -5,6 +5,7 @@ pub mod Round
 pub mod Shape
 pub mod Stack
 pub mod Slot
+pub mod Written
 pub mod Ownership
 pub mod Room
 pub mod Initial

@@ -1,13 +1,13 @@
 -- The rules' state of a state: what replacing a part makes of it, and what each part is in it.
 use mathlib.Core.Path.{_≡_, refl, ap, _∙_}
-use mathlib.Core.List.{List, [], _∷_, _++_, map}
+use mathlib.Core.List.{List, [], _∷_, map}
 use mathlib.Core.Option.{none}
-use Prim.Native.Nat.{ℕ, zero, suc, _+_, _<_, _≤_}
+use Prim.Native.Nat.{ℕ, zero, suc, _<_, _≤_}
 use native.Mathlib.Omega.{arith}
 use native.Mathlib.Nat.{not-suc-le-zero, le-of-suc-le-suc}
-use lib.ListN.{length, take, drop, getD, set, drop-of-length-le, length-map, List·getD-map}
+use lib.ListN.{length, take, getD, set, length-map, List·getD-map}
 use Rattle.rules.specs.Expression.{zeroInterval}
-use Rattle.rules.specs.Constants.{mostThreads, mostVariables, mostLocks}
+use Rattle.rules.specs.Constants.{mostThreads}
 use Rattle.rules.specs.Program as P
 use Rattle.rules.specs.Program.{Program, noThread}
 use Rattle.rules.specs.Search as S
@@ -35,11 +35,6 @@ module _ {A B : Type 0} (f : A → B) where
   view-get (suc n) (a ∷ l) zero d h = refl
   view-get (suc n) (a ∷ l) (suc i) d h = view-get n l i d (le-of-suc-le-suc h)
 
-  pub view-length : (n : ℕ) (l : List A) → n ≤ length l → length (take n (map f l)) ≡ n
-  view-length zero l h = refl
-  view-length (suc n) [] h = absurd (not-suc-le-zero h)
-  view-length (suc n) (a ∷ l) h = ap suc (view-length n l (le-of-suc-le-suc h))
-
 -- ---- registers and variables
 
 pub regs-set : (n : ℕ) (l : List Span) (i : ℕ) (v : Span) → regsOf n (set l i v) ≡ set (regsOf n l) i (intervalOf v)
@@ -50,10 +45,6 @@ pub regs-get : (n : ℕ) (l : List Span) (i : ℕ) → i < n → getD (regsOf n 
 unfolding regsOf
 regs-get n l i h = view-get intervalOf n l i zeroSpan h
 
-pub regs-length : (n : ℕ) (l : List Span) → n ≤ length l → length (regsOf n l) ≡ n
-unfolding regsOf
-regs-length n l h = view-length intervalOf n l h
-
 -- ---- owners
 
 pub owners-set : (n : ℕ) (l : List ℕ) (i o : ℕ) → ownersOf n (set l i o) ≡ set (ownersOf n l) i (ownerOf o)
@@ -63,10 +54,6 @@ owners-set n l i o = view-set ownerOf n l i o
 pub owners-get : (n : ℕ) (l : List ℕ) (i : ℕ) → i < n → getD (ownersOf n l) i none ≡ ownerOf (getD l i 0)
 unfolding ownersOf
 owners-get n l i h = view-get ownerOf n l i 0 h
-
-pub owners-length : (n : ℕ) (l : List ℕ) → n ≤ length l → length (ownersOf n l) ≡ n
-unfolding ownersOf
-owners-length n l h = view-length ownerOf n l h
 
 -- ---- threads
 
@@ -90,22 +77,6 @@ unfolding threadsOf
 threads-length [] xs h = refl
 threads-length (n ∷ ns) [] h = absurd (not-suc-le-zero h)
 threads-length (n ∷ ns) (x ∷ xs) h = ap suc (threads-length ns xs (le-of-suc-le-suc h))
-
--- from thread t on: t, and those behind it
-pub threads-from : (ns : List ℕ) (xs : List Thread) (t : ℕ) → t < length ns → t < length xs
-    → threadsOf (drop t ns) (drop t xs) ≡ threadOf (getD ns t 0) (getD xs t zeroThread) ∷ threadsOf (drop (suc t) ns) (drop (suc t) xs)
-unfolding threadsOf
-threads-from [] xs t h k = absurd (not-suc-le-zero h)
-threads-from (n ∷ ns) [] t h k = absurd (not-suc-le-zero k)
-threads-from (n ∷ ns) (x ∷ xs) zero h k = refl
-threads-from (n ∷ ns) (x ∷ xs) (suc t) h k = threads-from ns xs t (le-of-suc-le-suc h) (le-of-suc-le-suc k)
-
--- from behind the last thread on there is none
-pub threads-from-end : (ns : List ℕ) (xs : List Thread) (t : ℕ) → length ns ≤ t → threadsOf (drop t ns) (drop t xs) ≡ []
-unfolding threadsOf
-threads-from-end ns xs t h = rw (drop-of-length-le ns h)
-
--- ---- states
 
 pub with-thread-state : (z : Sizes) (s : State) (t : ℕ) (th : Thread)
     → stateOf z (withThread s t th)
@@ -144,14 +115,6 @@ module _ (z : Sizes) (s : State) where
   pub state-threads-length : length (z .regs) ≤ mostThreads → length (s .threads) ≡ mostThreads → length (stateOf z s .threads) ≡ length (z .regs)
   unfolding stateOf
   state-threads-length k e = threads-length (z .regs) (s .threads) (omega arith)
-
-  pub state-vars-length : z .vars ≤ mostVariables → length (s .vars) ≡ mostVariables → length (stateOf z s .vars) ≡ z .vars
-  unfolding stateOf
-  state-vars-length k e = regs-length (z .vars) (s .vars) (omega arith)
-
-  pub state-owners-length : z .locks ≤ mostLocks → length (s .owners) ≡ mostLocks → length (stateOf z s .owners) ≡ z .locks
-  unfolding stateOf
-  state-owners-length k e = owners-length (z .locks) (s .owners) (omega arith)
 
 -- ---- an event: a thread moved, and with it a variable or an owner
 
@@ -192,11 +155,6 @@ states-nil z = refl
 pub states-length : (z : Sizes) (xs : List State) → length (statesOf z xs) ≡ length xs
 unfolding statesOf
 states-length z xs = length-map xs (stateOf z)
-
-pub states-append : (z : Sizes) (xs ys : List State) → statesOf z (xs ++ ys) ≡ statesOf z xs ++ statesOf z ys
-unfolding statesOf
-states-append z [] ys = refl
-states-append z (x ∷ xs) ys = ap (λ (r : List S.State). stateOf z x ∷ r) (states-append z xs ys)
 
 -- ---- the sizes of a program
 

@@ -1,6 +1,6 @@
 -- The parts of a state, and a state with a part replaced.
 use Prim.Native.Nat.{ℕ}
-use mathlib.Core.List.{List, []}
+use mathlib.Core.List.{[]}
 use lib.ListN.{getD, set}
 use Rattle.interval.specs.declared.Span.{Span}
 use Rattle.interval.specs.Shape.{zeroSpan}

@@ -12,7 +12,7 @@ use interval::Span;
 ghost use mathlib.Core.Path.{_≡_};
 ghost use Prim.Native.Nat.{ℕ, _<_};
 ghost use lib.ListN.{length, set};
-ghost use Rattle.rules.specs.Constants.{half32, numbersPerState, mostRegisters, mostVariables, mostLocks};
+ghost use Rattle.rules.specs.Constants.{numbersPerState, mostRegisters, mostVariables, mostLocks};
 ghost use Rattle.state.specs.Access.{threadAt, withVar, withOwner};
 ghost use Rattle.state.specs.Cells.{cellAt, decode};
 ghost use Rattle.state.specs.Move.{MoveFits, movedTo};

@@ -13,7 +13,7 @@ ghost use Prim.Native.Nat.{_<_, _≤_, _+_, _*_};
 ghost use lib.ListN.{length};
 ghost use Rattle.rules.specs.Constants.{half32, numbersPerState, mostThreads, mostRegisters, mostVariables, mostLocks};
 ghost use Rattle.state.specs.Access.{threadAt, varAt, ownerAt, regAt};
-ghost use Rattle.state.specs.Cells.{slotOf, byteOf, timeOf, spanFrom, spansFrom, decode, AllTimed};
+ghost use Rattle.state.specs.Cells.{slotOf, byteOf, timeOf, spanFrom, decode, AllTimed};
 
 // The numbers of a slot.
 pub fn take_slot(work: &[i32], slot: usize) -> [i32; 100]

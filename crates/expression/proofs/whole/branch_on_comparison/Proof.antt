@@ -1,3 +1,4 @@
+-- `expression::whole::branch_on_comparison` meets its contract. Assumes nothing.
 use mathlib.Core.Path.{sym, ap, ap₂, _∙_}
 use mathlib.Core.Bool.{true, false}
 use Rattle.rules.specs.Expression.{compared}
@@ -12,32 +13,19 @@ use Rattle.expression.proofs.narrowing.Laws.{comparison-unread, compari
 use borrow.Author.Needs.{needs}
 use Rattle.expression.proofs.whole.branch_on_comparison.Statement.{statement}
 use Rattle.expression.proofs.whole.branch_on_comparison.Tie as tie
-use Rattle.expression.proofs.whole.branch_on_comparison.Reads as reads
-use Rattle.expression.proofs.whole.branch_on_comparison.Lts as lts
-use Rattle.expression.proofs.comparison.compare_readings.Reads as compare-readings-reads
-use Rattle.expression.proofs.comparison.side_at.Reads as side-at-reads
-use Rattle.expression.proofs.evaluation.evaluate.Reads as evaluate-reads
-use Rattle.expression.proofs.parts.check_reading.Reads as check-reading-reads
-use Rattle.expression.proofs.parts.first_fault.Reads as first-fault-reads
-use Rattle.expression.proofs.whole.unread_branch.Reads as unread-branch-reads
 
--- src/whole.rt:104:33
 evaluate-requires : tie.Need-evaluate-requires
 evaluate-requires c κs = search needs
 
--- src/whole.rt:104:25
 enum-known-x : tie.Need-enum-known-x
 enum-known-x c = search needs
 
--- src/whole.rt:105:9
 enum-told : tie.Need-enum-told
 enum-told c = search needs
 
--- src/whole.rt:105:9
 unread-branch-requires : tie.Need-unread-branch-requires
 unread-branch-requires c κs = search needs
 
--- src/whole.rt:105:9
 returns : tie.Need-returns
 returns c = let arg = c .before .before .before .before .before .args in
     record {
@@ -46,23 +34,18 @@ returns c = let arg = c .before .before .before .before .before .args in
       no = c .unread-branch .ensures .1 .1 (arg .n) ∙ ap leftIn (comparison-unread false (arg .o) (arg .s .now) (arg .end) (arg .n) (arg .at) (arg .depth) (regsOf (arg .n) (arg .regs)) (sym (ap evaluatedOf (c .before .enum-told .given .1)) ∙ c .before .before .before .evaluate .ensures));
     }
 
--- src/whole.rt:107:33
 evaluate-requires-2 : tie.Need-evaluate-requires-2
 evaluate-requires-2 c κs = search needs
 
--- src/whole.rt:107:25
 enum-known-y : tie.Need-enum-known-y
 enum-known-y c = search needs
 
--- src/whole.rt:108:9
 enum-told-2 : tie.Need-enum-told-2
 enum-told-2 c = search needs
 
--- src/whole.rt:108:9
 unread-branch-requires-2 : tie.Need-unread-branch-requires-2
 unread-branch-requires-2 c κs = search needs
 
--- src/whole.rt:108:9
 returns-2 : tie.Need-returns-2
 returns-2 c = let arg = c .before .before .before .before .before .before .before .before .before .args in
     record {
@@ -71,35 +54,27 @@ returns-2 c = let arg = c .before .before .before .before .before .before .befor
       no = c .unread-branch2 .ensures .1 .1 (arg .n) ∙ ap leftIn (comparison-at false (arg .o) (arg .s .now) (arg .end) (arg .n) (arg .at) (arg .depth) (regsOf (arg .n) (arg .regs)) _ _ unread (sym (ap evaluatedOf (c .before .before .before .before .before .x .given .1)) ∙ c .before .before .before .before .before .before .before .evaluate .ensures) (sym (ap evaluatedOf (c .before .enum-told2 .given .1)) ∙ c .before .before .before .evaluate2 .ensures));
     }
 
--- src/whole.rt:110:9
 side-at-requires : tie.Need-side-at-requires
 side-at-requires c κs = search needs
 
--- src/whole.rt:111:9
 side-at-requires-2 : tie.Need-side-at-requires-2
 side-at-requires-2 c κs = search needs
 
--- src/whole.rt:112:29
 check-reading-requires : tie.Need-check-reading-requires
 check-reading-requires c κs = search needs
 
--- src/whole.rt:112:47
 check-reading-requires-2 : tie.Need-check-reading-requires-2
 check-reading-requires-2 c κs = search needs
 
--- src/whole.rt:112:9
 first-fault-requires : tie.Need-first-fault-requires
 first-fault-requires c κs = search needs
 
--- src/whole.rt:113:9
 compare-readings-requires : tie.Need-compare-readings-requires
 compare-readings-requires c κs = search needs
 
--- src/whole.rt:114:9
 compare-readings-requires-2 : tie.Need-compare-readings-requires-2
 compare-readings-requires-2 c κs = search needs
 
--- src/whole.rt:92:1
 returns-3 : tie.Need-returns-3
 returns-3 c = let arg = c .before .before .before .before .before .before .before .before .before .before .before .before .before .before .before .before .args in
     record {

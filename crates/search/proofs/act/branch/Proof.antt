@@ -1,8 +1,9 @@
-use mathlib.Core.Path.{_≡_, refl, sym, ap, _∙_}
+-- `search::act::branch` meets its contract. Assumes nothing.
+use mathlib.Core.Path.{sym, ap, _∙_}
 use native.Mathlib.Omega.{arith}
-use Prim.Native.Nat.{ℕ, suc, _≤_}
+use Prim.Native.Nat.{suc}
 use Rattle.state.specs.Cells.{decode}
-use Rattle.state.specs.Access.{threadAt, withVar, withOwner}
+use Rattle.state.specs.Access.{threadAt}
 use Rattle.expression.specs.Evaluation.{regsOf}
 use Rattle.rules.specs.Constants.{deepest}
 use Rattle.rules.specs.Expression.{allParts, narrowYes, narrowNo}
@@ -16,61 +17,42 @@ use Rattle.interval.specs.declared.Span.{Span}
 use borrow.Author.Needs.{needs}
 use Rattle.search.proofs.act.branch.Statement.{statement}
 use Rattle.search.proofs.act.branch.Tie as tie
-use Rattle.search.proofs.act.branch.Reads as reads
-use Rattle.search.proofs.act.branch.Lts as lts
-use Rattle.expression.proofs.branch_on.Reads as branch-on-reads
-use Rattle.search.proofs.act.next.Reads as next-reads
-use Rattle.search.proofs.act.way.Reads as way-reads
-use Rattle.state.proofs.at_of.Reads as at-of-reads
-use Rattle.state.proofs.registers_of.Reads as registers-of-reads
 
--- src/act.rt:284:9
 registers-of-requires : tie.Need-registers-of-requires
 registers-of-requires c κs = c .before .pre .0 .ticks .thread
 
--- src/act.rt:286:9
 branch-on-requires : tie.Need-branch-on-requires
 branch-on-requires c κs = search needs
 
--- src/act.rt:289:22
 enum-known-check : tie.Need-enum-known-check
 enum-known-check c = search needs
 
--- src/act.rt:291:27
 enum-told : tie.Need-enum-told
 enum-told c = search needs
 
--- src/act.rt:291:27
 at-of-requires : tie.Need-at-of-requires
 at-of-requires c κs = c .before .before .before .before .before .pre .0 .ticks .thread
 
--- src/act.rt:291:17
 next-requires : tie.Need-next-requires
 next-requires c κs = omega (arith, c .at-of .ensures, c .before .before .before .before .before .before .pre .1 .0)
 
--- src/act.rt:294:17
 way-requires : tie.Need-way-requires
 way-requires c κs = c .before .before .before .before .before .before .before .before .before .before .pre .0
 
--- src/act.rt:295:22
 cast-to : tie.Need-cast-to
 cast-to c = search needs
 
--- src/act.rt:298:17
 way-requires-2 : tie.Need-way-requires-2
 way-requires-2 c κs = let a = c .before .before .before .before .before .before .before .before .before .before .before .before .before .before .before .pre .0 in let w = c .before .before .before .before .way .ensures (record { regs = []; vars = 0; locks = 0 }) in
     record { ticks = a .ticks; room = rw (w .same-length) (a .room); high = omega (arith, w .count) }
 
--- src/act.rt:267:1
 returns : tie.Need-returns
 returns c = let arg = c .before .before .before .before .before .before .args in
     λ z a n e. branch-faults z (arg .slots) (arg .work .now) (arg .height) (decode (arg .cells .now)) (arg .v) (threadAt (decode (arg .cells .now)) (arg .v .thread)) (arg .target) a (c .before .check .given .0 .0) (sym (ap checkOf (c .before .check .given .1)) ∙ check-of-tree (regsOf (arg .v .registers) (c .before .before .before .before .registers-of .result)) (arg .end) (arg .v .registers) (readCondition deepest (arg .sheet .now) (arg .end) (arg .v .registers) (arg .at)) a (c .before .before .before .branch-on .result) e (c .before .before .before .branch-on .ensures) ∙ ap (λ (rs : List Span). allParts a (regsOf (arg .v .registers) rs)) (c .before .before .before .before .registers-of .ensures))
 
--- src/act.rt:267:1
 same-length : tie.Need-same-length
 same-length c = search needs
 
--- src/act.rt:267:1
 returns-2 : tie.Need-returns-2
 returns-2 c = let arg = c .before .before .before .before .before .before .before .before .before .before .before .before .before .before .before .before .before .args in
     λ z a n e. branches-on z (arg .slots) (arg .work .now) (arg .height) (decode (arg .cells .now)) (arg .v) (threadAt (decode (arg .cells .now)) (arg .v .thread)) (arg .target) a (c .before .before .before .before .before .before .way .last .1 .1 .1 .1 .1 .0) (c .before .way2 .last .1 .1 .1 .1 .1 .0) (c .before .before .before .before .before .before .way .result) (c .before .way2 .result) (c .before .before .before .before .before .before .before .before .before .before .next .result)

@@ -1,10 +1,11 @@
-use mathlib.Core.Path.{_≡_, refl, sym, ap, _∙_}
-use Prim.Native.Nat.{ℕ, suc, _≤_}
+-- `search::act::load` meets its contract. Assumes nothing.
+use mathlib.Core.Path.{refl, sym, ap, _∙_}
+use Prim.Native.Nat.{suc}
 use lib.ListN.{getD, set}
 use Rattle.state.specs.Cells.{decode}
-use Rattle.state.specs.Access.{threadAt, withVar, withOwner}
+use Rattle.state.specs.Access.{threadAt}
 use Rattle.expression.specs.Evaluation.{regsOf}
-use Rattle.search.specs.Act.{movedBy, movedWith}
+use Rattle.search.specs.Act.{movedBy}
 use Rattle.rules.specs.Search.{effect}
 use Rattle.rules.specs.Interval.{Interval}
 use Rattle.interval.specs.Shape.{intervalOf}
@@ -13,24 +14,16 @@ use Rattle.search.proofs.ActLaws.{pushed-as}
 use borrow.Author.Needs.{needs}
 use Rattle.search.proofs.act.load.Statement.{statement}
 use Rattle.search.proofs.act.load.Tie as tie
-use Rattle.search.proofs.act.load.Reads as reads
-use Rattle.search.proofs.act.load.Lts as lts
-use Rattle.search.proofs.act.write_register.Reads as write-register-reads
-use Rattle.state.proofs.variable_of.Reads as variable-of-reads
 
--- src/act.rt:338:9
 variable-of-requires : tie.Need-variable-of-requires
 variable-of-requires c κs = c .pre .1 .1 .1
 
--- src/act.rt:339:5
 write-register-requires : tie.Need-write-register-requires
 write-register-requires c κs = (c .before .before .pre .0, (c .before .before .pre .1 .0, c .before .before .pre .1 .1 .0))
 
--- src/act.rt:324:1
 same-length : tie.Need-same-length
 same-length c = search needs
 
--- src/act.rt:324:1
 returns : tie.Need-returns
 unfolding effect
 returns c = let arg = c .before .before .before .before .args in

@@ -1,67 +1,48 @@
-use mathlib.Core.Path.{_≡_, refl, sym, ap, _∙_}
+-- `search::act::lock` meets its contract. Assumes nothing.
+use mathlib.Core.Path.{refl, sym, ap, _∙_}
 use native.Mathlib.Omega.{arith}
-use Prim.Native.Nat.{ℕ, suc, _≤_}
+use Prim.Native.Nat.{ℕ, suc}
 use Rattle.state.specs.Cells.{decode}
 use Rattle.search.proofs.ActLaws.{pushed-as, locks, waits-on}
 use Rattle.rules.specs.Search.{effect}
-use Rattle.rules.specs.Lock.{mayTake, afterUnlock}
+use Rattle.rules.specs.Lock.{mayTake}
 use Rattle.state.specs.Shape.{ownerOf}
 use borrow.Author.Needs.{needs}
 use Rattle.search.proofs.act.lock.Statement.{statement}
 use Rattle.search.proofs.act.lock.Tie as tie
-use Rattle.search.proofs.act.lock.Reads as reads
-use Rattle.search.proofs.act.lock.Lts as lts
-use Rattle.search.proofs.act.may_take.Reads as may-take-reads
-use Rattle.search.proofs.act.next.Reads as next-reads
-use Rattle.search.proofs.act.owner.Reads as owner-reads
-use Rattle.search.proofs.act.push_moved.Reads as push-moved-reads
-use Rattle.search.proofs.act.push_owner.Reads as push-owner-reads
-use Rattle.state.proofs.at_of.Reads as at-of-reads
-use Rattle.state.proofs.owner_of.Reads as owner-of-reads
 
--- src/act.rt:404:9
 at-of-requires : tie.Need-at-of-requires
 at-of-requires c κs = c .pre .0 .ticks .thread
 
--- src/act.rt:405:20
 owner-of-requires : tie.Need-owner-of-requires
 owner-of-requires c κs = c .before .pre .1 .1
 
--- src/act.rt:405:8
 may-take-requires : tie.Need-may-take-requires
 may-take-requires c κs = c .before .before .pre .0 .ticks .thread
 
--- src/act.rt:406:37
 next-requires : tie.Need-next-requires
 next-requires c κs = omega (arith, c .before .before .before .at-of .ensures, c .before .before .before .before .pre .1 .0)
 
--- src/act.rt:406:50
 owner-requires : tie.Need-owner-requires
 owner-requires c κs = c .before .before .before .before .before .pre .0 .ticks .thread
 
--- src/act.rt:406:9
 push-owner-requires : tie.Need-push-owner-requires
 push-owner-requires c κs = (c .before .before .before .before .before .before .before .pre .0, c .before .before .before .before .before .before .before .pre .1 .1)
 
--- src/act.rt:406:9
 same-length : tie.Need-same-length
 same-length c = search needs
 
--- src/act.rt:406:9
 returns : tie.Need-returns
 unfolding effect
 returns c = let arg = c .before .before .before .before .before .before .before .before .before .args in
     λ z h. (c .before .push-owner .result, refl, pushed-as (locks z (decode (arg .cells .now)) (arg .v) (arg .l) h (c .before .before .before .before .next .result) (c .before .before .before .owner .result) (c .before .before .before .before .next .ensures ∙ ap suc (c .before .before .before .before .before .before .before .before .at-of .ensures)) (c .before .before .before .owner .ensures) (sym (ap (λ (o : ℕ). mayTake (arg .v .thread) (ownerOf o)) (c .before .before .before .before .before .before .before .owner-of .ensures)) ∙ sym (c .before .before .before .before .before .before .may-take .ensures) ∙ c .before .before .before .before .before .if1 .taken)) (c .before .push-owner .ensures z))
 
--- src/act.rt:408:5
 push-moved-requires : tie.Need-push-moved-requires
 push-moved-requires c κs = c .before .before .before .before .before .pre .0
 
--- src/act.rt:390:1
 same-length-2 : tie.Need-same-length-2
 same-length-2 c = search needs
 
--- src/act.rt:390:1
 returns-2 : tie.Need-returns-2
 unfolding effect
 returns-2 c = let arg = c .before .before .before .before .before .before .before .args in

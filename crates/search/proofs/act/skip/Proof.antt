@@ -1,38 +1,29 @@
-use mathlib.Core.Path.{_≡_, refl, sym, ap, _∙_}
+-- `search::act::skip` meets its contract. Assumes nothing.
+use mathlib.Core.Path.{ap, _∙_}
 use native.Mathlib.Omega.{arith}
-use Prim.Native.Nat.{ℕ, suc, _≤_}
-use lib.ListN.{getD, set}
+use Prim.Native.Nat.{ℕ, suc}
+use lib.ListN.{getD}
 use Rattle.state.specs.Cells.{decode}
-use Rattle.state.specs.Access.{threadAt, withVar, withOwner}
+use Rattle.state.specs.Access.{threadAt}
 use Rattle.expression.specs.Evaluation.{regsOf}
-use Rattle.search.specs.Act.{movedBy, movedWith}
+use Rattle.search.specs.Act.{movedBy}
 use Rattle.search.proofs.ActLaws.{pushed-as}
 use borrow.Author.Needs.{needs}
 use Rattle.search.proofs.act.skip.Statement.{statement}
 use Rattle.search.proofs.act.skip.Tie as tie
-use Rattle.search.proofs.act.skip.Reads as reads
-use Rattle.search.proofs.act.skip.Lts as lts
-use Rattle.search.proofs.act.next.Reads as next-reads
-use Rattle.search.proofs.act.push_moved.Reads as push-moved-reads
-use Rattle.state.proofs.at_of.Reads as at-of-reads
 
--- src/act.rt:196:19
 at-of-requires : tie.Need-at-of-requires
 at-of-requires c κs = c .pre .0 .ticks .thread
 
--- src/act.rt:196:9
 next-requires : tie.Need-next-requires
 next-requires c κs = omega (arith, c .at-of .ensures, c .before .pre .1)
 
--- src/act.rt:197:5
 push-moved-requires : tie.Need-push-moved-requires
 push-moved-requires c κs = c .before .before .before .pre .0
 
--- src/act.rt:191:1
 same-length : tie.Need-same-length
 same-length c = search needs
 
--- src/act.rt:191:1
 returns : tie.Need-returns
 returns c = let arg = c .before .before .before .before .before .args in
     λ z. pushed-as (ap (λ (at : ℕ). movedBy z (decode (arg .cells .now)) (arg .v) at (regsOf (getD (z .regs) (arg .v .thread) 0) ((threadAt (decode (arg .cells .now)) (arg .v .thread)) .regs))) (c .before .before .before .next .ensures ∙ ap suc (c .before .before .before .before .at-of .ensures))) (c .before .push-moved .ensures z)

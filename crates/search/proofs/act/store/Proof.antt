@@ -1,11 +1,12 @@
-use mathlib.Core.Path.{_≡_, refl, sym, ap, _∙_}
+-- `search::act::store` meets its contract. Assumes nothing.
+use mathlib.Core.Path.{refl, sym, ap, _∙_}
 use native.Mathlib.Omega.{arith}
-use Prim.Native.Nat.{ℕ, suc, _≤_}
+use Prim.Native.Nat.{suc}
 use lib.ListN.{getD, set}
 use Rattle.state.specs.Cells.{decode}
-use Rattle.state.specs.Access.{threadAt, withVar, withOwner}
+use Rattle.state.specs.Access.{threadAt}
 use Rattle.state.specs.Shape.{stateOf}
-use Rattle.search.specs.Act.{movedBy, movedWith}
+use Rattle.search.specs.Act.{movedWith}
 use Rattle.rules.specs.Search.{effect}
 use Rattle.interval.specs.Shape.{intervalOf}
 use Rattle.state.proofs.Shape.{regs-get}
@@ -13,34 +14,22 @@ use Rattle.search.proofs.ActLaws.{pushed-as}
 use borrow.Author.Needs.{needs}
 use Rattle.search.proofs.act.store.Statement.{statement}
 use Rattle.search.proofs.act.store.Tie as tie
-use Rattle.search.proofs.act.store.Reads as reads
-use Rattle.search.proofs.act.store.Lts as lts
-use Rattle.search.proofs.act.next.Reads as next-reads
-use Rattle.search.proofs.act.push_variable.Reads as push-variable-reads
-use Rattle.state.proofs.at_of.Reads as at-of-reads
-use Rattle.state.proofs.register_of.Reads as register-of-reads
 
--- src/act.rt:319:9
 register-of-requires : tie.Need-register-of-requires
 register-of-requires c κs = (c .pre .0 .ticks .thread, c .pre .1 .1 .0)
 
--- src/act.rt:320:19
 at-of-requires : tie.Need-at-of-requires
 at-of-requires c κs = c .before .pre .0 .ticks .thread
 
--- src/act.rt:320:9
 next-requires : tie.Need-next-requires
 next-requires c κs = omega (arith, c .at-of .ensures, c .before .before .pre .1 .0)
 
--- src/act.rt:321:5
 push-variable-requires : tie.Need-push-variable-requires
 push-variable-requires c κs = (c .before .before .before .before .pre .0, c .before .before .before .before .pre .1 .1 .1)
 
--- src/act.rt:304:1
 same-length : tie.Need-same-length
 same-length c = search needs
 
--- src/act.rt:304:1
 returns : tie.Need-returns
 unfolding effect
 returns c = let arg = c .before .before .before .before .before .before .args in

@@ -1,47 +1,34 @@
-use mathlib.Core.Path.{_≡_, refl, sym, ap, _∙_}
+-- `search::act::unlock` meets its contract. Assumes nothing.
+use mathlib.Core.Path.{refl, ap, _∙_}
 use native.Mathlib.Omega.{arith}
-use Prim.Native.Nat.{ℕ, suc, _≤_}
+use Prim.Native.Nat.{ℕ, suc}
 use Rattle.state.specs.Cells.{decode}
 use Rattle.search.proofs.ActLaws.{pushed-as, unlocks}
 use Rattle.rules.specs.Search.{effect}
-use Rattle.rules.specs.Lock.{mayTake, afterUnlock}
+use Rattle.rules.specs.Lock.{afterUnlock}
 use Rattle.state.specs.Shape.{ownerOf}
 use borrow.Author.Needs.{needs}
 use Rattle.search.proofs.act.unlock.Statement.{statement}
 use Rattle.search.proofs.act.unlock.Tie as tie
-use Rattle.search.proofs.act.unlock.Reads as reads
-use Rattle.search.proofs.act.unlock.Lts as lts
-use Rattle.search.proofs.act.after_unlock.Reads as after-unlock-reads
-use Rattle.search.proofs.act.next.Reads as next-reads
-use Rattle.search.proofs.act.push_owner.Reads as push-owner-reads
-use Rattle.state.proofs.at_of.Reads as at-of-reads
-use Rattle.state.proofs.owner_of.Reads as owner-of-reads
 
--- src/act.rt:385:29
 owner-of-requires : tie.Need-owner-of-requires
 owner-of-requires c κs = c .pre .1 .1
 
--- src/act.rt:385:9
 after-unlock-requires : tie.Need-after-unlock-requires
 after-unlock-requires c κs = c .before .pre .0 .ticks .thread
 
--- src/act.rt:386:19
 at-of-requires : tie.Need-at-of-requires
 at-of-requires c κs = c .before .before .pre .0 .ticks .thread
 
--- src/act.rt:386:9
 next-requires : tie.Need-next-requires
 next-requires c κs = omega (arith, c .at-of .ensures, c .before .before .before .pre .1 .0)
 
--- src/act.rt:387:5
 push-owner-requires : tie.Need-push-owner-requires
 push-owner-requires c κs = (c .before .before .before .before .before .pre .0, c .before .before .before .before .before .pre .1 .1)
 
--- src/act.rt:371:1
 same-length : tie.Need-same-length
 same-length c = search needs
 
--- src/act.rt:371:1
 returns : tie.Need-returns
 unfolding effect
 returns c = let arg = c .before .before .before .before .before .before .before .args in

@@ -1,26 +1,20 @@
+-- `search::act::way` meets its contract. Assumes nothing.
 use Rattle.rules.specs.Search.{unlessEmpty}
 use Rattle.search.proofs.PushLaws.{none-pushed}
 use borrow.Author.Needs.{needs}
 use Rattle.search.proofs.act.way.Statement.{statement}
 use Rattle.search.proofs.act.way.Tie as tie
-use Rattle.search.proofs.act.way.Reads as reads
-use Rattle.search.proofs.act.way.Lts as lts
-use Rattle.search.proofs.act.push_registers.Reads as push-registers-reads
 
--- src/act.rt:261:9
 returns : tie.Need-returns
 unfolding unlessEmpty
 returns c = λ z. rw (c .if1 .taken) (none-pushed (c .before .pre .high))
 
--- src/act.rt:263:5
 push-registers-requires : tie.Need-push-registers-requires
 push-registers-requires c κs = c .before .before .pre
 
--- src/act.rt:246:1
 same-length : tie.Need-same-length
 same-length c = search needs
 
--- src/act.rt:246:1
 returns-2 : tie.Need-returns-2
 unfolding unlessEmpty
 returns-2 c = λ z. rw (c .before .before .before .if1 .left) (c .before .push-registers .ensures z)

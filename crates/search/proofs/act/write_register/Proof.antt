@@ -1,39 +1,30 @@
-use mathlib.Core.Path.{_≡_, refl, sym, ap, _∙_}
+-- `search::act::write_register` meets its contract. Assumes nothing.
+use mathlib.Core.Path.{ap, _∙_}
 use native.Mathlib.Omega.{arith}
-use Prim.Native.Nat.{ℕ, suc, _≤_}
+use Prim.Native.Nat.{ℕ, suc}
 use lib.ListN.{getD, set}
 use Rattle.state.specs.Cells.{decode}
-use Rattle.state.specs.Access.{threadAt, withVar, withOwner}
+use Rattle.state.specs.Access.{threadAt}
 use Rattle.expression.specs.Evaluation.{regsOf}
-use Rattle.search.specs.Act.{movedBy, movedWith}
+use Rattle.search.specs.Act.{movedBy}
 use Rattle.interval.specs.Shape.{intervalOf}
 use Rattle.search.proofs.ActLaws.{pushed-as}
 use borrow.Author.Needs.{needs}
 use Rattle.search.proofs.act.write_register.Statement.{statement}
 use Rattle.search.proofs.act.write_register.Tie as tie
-use Rattle.search.proofs.act.write_register.Reads as reads
-use Rattle.search.proofs.act.write_register.Lts as lts
-use Rattle.search.proofs.act.next.Reads as next-reads
-use Rattle.search.proofs.act.push_register.Reads as push-register-reads
-use Rattle.state.proofs.at_of.Reads as at-of-reads
 
--- src/act.rt:213:19
 at-of-requires : tie.Need-at-of-requires
 at-of-requires c κs = c .pre .0 .ticks .thread
 
--- src/act.rt:213:9
 next-requires : tie.Need-next-requires
 next-requires c κs = omega (arith, c .at-of .ensures, c .before .pre .1 .0)
 
--- src/act.rt:214:5
 push-register-requires : tie.Need-push-register-requires
 push-register-requires c κs = (c .before .before .before .pre .0, c .before .before .before .pre .1 .1)
 
--- src/act.rt:200:1
 same-length : tie.Need-same-length
 same-length c = search needs
 
--- src/act.rt:200:1
 returns : tie.Need-returns
 returns c = let arg = c .before .before .before .before .before .args in
     λ z. pushed-as (ap (λ (at : ℕ). movedBy z (decode (arg .cells .now)) (arg .v) at (set (regsOf (getD (z .regs) (arg .v .thread) 0) ((threadAt (decode (arg .cells .now)) (arg .v .thread)) .regs)) (arg .r) (intervalOf (arg .i)))) (c .before .before .before .next .ensures ∙ ap suc (c .before .before .before .before .at-of .ensures))) (c .before .push-register .ensures z)

@@ -1,3 +1,4 @@
+-- `search::run::search` meets its contract. Assumes nothing.
 use borrow.Author.Needs.{needs}
 use mathlib.Core.Path.{_≡_, sym, _∙_}
 use mathlib.Core.List.{[], _∷_}
@@ -14,12 +15,6 @@ use Rattle.search.proofs.RunLaws.{Goes, Taken, goes-start, goes-from, g
 use Rattle.state.specs.Cells.{decode, stackOf}
 use Rattle.search.proofs.run.search.Statement.{statement}
 use Rattle.search.proofs.run.search.Tie as tie
-use Rattle.search.proofs.run.search.Reads as reads
-use Rattle.search.proofs.run.search.Lts as lts
-use Rattle.search.proofs.run.widen.Reads as widen-reads
-use Rattle.search.proofs.turn.turn.Reads as turn-reads
-use Rattle.state.proofs.store.Reads as store-reads
-use Rattle.state.proofs.take_slot.Reads as take-slot-reads
 
 abbrev Inv-loop : tie.InvT-loop
 Inv-loop sheet places plan budget work₀ slots height₀ steps₀ w₀ work height steps w = Goes (S.search budget (programIn sheet) slots (statesOf (sizesOf (programIn sheet)) (stackOf 1 work₀)) unseen 0)
@@ -62,27 +57,21 @@ taken c at =
 kept : (c : tie.After-turn Inv-loop μ-loop) → length (c .turn .last .1 .1 .1 .1 .0) ≡ length (c .before .before .before .before .before .before .before .before .before .before .before .before .args .work .now)
 kept c = c .turn .kept .1 .1 .1 .1 .0 ∙ head (c .before .before .before .before .before .before .before) .sized
 
--- src/run.rt:72:5
 store-requires : tie.Need-store-requires Inv-loop μ-loop
 store-requires c κs = let room = c .before .before .pre .1 .1 .0 in let one = c .before .before .pre .1 .1 .1 in (omega arith, c .before .before .pre .1 .0)
 
--- src/run.rt:80:5
 loop-holds : tie.Need-loop-holds Inv-loop μ-loop
 loop-holds c = goes-start _ _ _ _ (c .before .before .before .before .pre .1 .1 .1)
 
--- src/run.rt:82:13
 same-length : tie.Need-same-length Inv-loop μ-loop
 same-length c = head (c .before .before) .sized
 
--- src/run.rt:82:13
 returns : tie.Need-returns Inv-loop μ-loop
 returns c = (sym (goes-short (head (c .before .before)) (c .before .loop-test .taken) (c .if1 .taken)), head (c .before .before) .sized)
 
--- src/run.rt:84:9
 sub-height : tie.Need-sub-height Inv-loop μ-loop
 sub-height c = c .before .loop-test .taken
 
--- src/run.rt:85:21
 take-slot-requires : tie.Need-take-slot-requires Inv-loop μ-loop
 take-slot-requires c κs = let at = head (c .before .before .before) in
     let low = at .in-slots in
@@ -91,11 +80,9 @@ take-slot-requires c κs = let at = head (c .before .before .before) in
     let some = c .before .before .loop-test .taken in
     omega arith
 
--- src/run.rt:86:9
 add-steps : tie.Need-add-steps Inv-loop μ-loop
 add-steps c = let most = c .before .before .before .before .loop .inv .in-budget in let other = c .before .before .if1 .left in search needs
 
--- src/run.rt:87:15
 turn-requires : tie.Need-turn-requires Inv-loop μ-loop
 turn-requires c κs = let at = head (c .before .before .before .before .before .before) in
     let low = at .in-slots in
@@ -104,59 +91,45 @@ turn-requires c κs = let at = head (c .before .before .before .before .before .
     let some = c .before .before .before .before .before .loop-test .taken in
     (c .before .before .before .before .before .before .before .before .before .before .before .pre .0, (c .before .before .take-slot .ensures .1, ((omega arith, c .before .before .before .before .before .before .before .before .before .before .before .pre .1 .1 .1), omega arith)))
 
--- src/run.rt:88:29
 enum-known-r : tie.Need-enum-known-r Inv-loop μ-loop
 enum-known-r c = search needs
 
--- src/run.rt:89:17
 same-length-2 : tie.Need-same-length-2 Inv-loop μ-loop
 same-length-2 c = kept (c .before .before .before .before)
 
--- src/run.rt:89:17
 returns-2 : tie.Need-returns-2 Inv-loop μ-loop
 returns-2 c = (sym (goes-refused (taken (c .before .before .before .before) (head (c .before .before .before .before .before .before .before .before .before .before .before))) (c .before .r .given .0 .0) (c .before .r .given .0 .1 .0) (c .before .r .given .1)), kept (c .before .before .before .before))
 
--- src/run.rt:91:27
 enum-known-a : tie.Need-enum-known-a Inv-loop μ-loop
 enum-known-a c = search needs
 
--- src/run.rt:92:17
 widen-requires : tie.Need-widen-requires Inv-loop μ-loop
 widen-requires c κs = search needs
 
--- src/run.rt:80:5
 loop-less : tie.Need-loop-less Inv-loop μ-loop
 loop-less c = let most = c .before .before .before .before .before .before .before .before .before .before .before .before .loop .inv .in-budget in let other = c .before .before .before .before .before .before .before .before .before .before .if1 .left in omega arith
 
--- src/run.rt:80:5
 loop-again : tie.Need-loop-again Inv-loop μ-loop
 loop-again c = goes-ended (taken (c .before .before .before .before .before) (c .before .before .before .before .before .before .before .before .before .before .before .before .loop .inv)) (c .before .before .a .given .0 .0) (c .before .before .a .given .0 .1 .0) (c .before .before .a .given .1) (c .widen .ensures)
 
--- src/run.rt:94:28
 enum-known-h : tie.Need-enum-known-h Inv-loop μ-loop
 enum-known-h c = search needs
 
--- src/run.rt:96:21
 same-length-3 : tie.Need-same-length-3 Inv-loop μ-loop
 same-length-3 c = kept (c .before .before .before .before .before)
 
--- src/run.rt:96:21
 returns-3 : tie.Need-returns-3 Inv-loop μ-loop
 returns-3 c = (sym (goes-full (taken (c .before .before .before .before .before) (head (c .before .before .before .before .before .before .before .before .before .before .before .before))) (c .before .before .h .given .0 .0) (c .before .before .h .given .1) (c .if2 .taken)), kept (c .before .before .before .before .before))
 
--- src/run.rt:80:5
 loop-less-2 : tie.Need-loop-less-2 Inv-loop μ-loop
 loop-less-2 c = let most = c .before .before .before .before .before .before .before .before .before .before .before .before .loop .inv .in-budget in let other = c .before .before .before .before .before .before .before .before .before .before .if1 .left in omega arith
 
--- src/run.rt:80:5
 loop-again-2 : tie.Need-loop-again-2 Inv-loop μ-loop
 loop-again-2 c = goes-on (taken (c .before .before .before .before .before) (c .before .before .before .before .before .before .before .before .before .before .before .before .loop .inv)) (c .before .before .h .given .0 .0) (c .before .before .h .given .1) (c .if2 .left)
 
--- src/run.rt:59:1
 same-length-4 : tie.Need-same-length-4 Inv-loop μ-loop
 same-length-4 c = head (c .before) .sized
 
--- src/run.rt:59:1
 returns-4 : tie.Need-returns-4 Inv-loop μ-loop
 returns-4 c = (sym (goes-out (head (c .before)) (omega (arith, c .loop-test .left))), head (c .before) .sized)
 

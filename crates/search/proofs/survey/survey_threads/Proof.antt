@@ -1,3 +1,4 @@
+-- `search::survey::survey_threads` meets its contract. Assumes nothing.
 use native.Mathlib.Omega.{arith}
 use mathlib.Core.Path.{_≡_, refl, ap, subst, _∙_}
 use Prim.Native.Nat.{ℕ, _-_}
@@ -13,13 +14,6 @@ use Rattle.search.specs.Survey.{addThread, never, EarliestFrom}
 use Rattle.search.proofs.survey.Laws.{fetched-lock, Surveyed, survey-start, survey-again, survey-done, earliest-start, earliest-again}
 use Rattle.search.proofs.survey.survey_threads.Statement.{statement}
 use Rattle.search.proofs.survey.survey_threads.Tie as tie
-use Rattle.search.proofs.survey.survey_threads.Reads as reads
-use Rattle.search.proofs.survey.survey_threads.Lts as lts
-use Rattle.search.proofs.fetch.fetch.Reads as fetch-reads
-use Rattle.search.proofs.survey.earliest_tick.Reads as earliest-tick-reads
-use Rattle.search.proofs.survey.with_thread.Reads as with-thread-reads
-use Rattle.state.proofs.at_of.Reads as at-of-reads
-use Rattle.state.proofs.clock_of.Reads as clock-of-reads
 
 abbrev Inv-loop : tie.InvT-loop
 Inv-loop sheet places plan cells a₀ earliest₀ t₀ a earliest t = Surveyed (programIn sheet) (decode cells) t a × (length earliest ≡ mostThreads) × EarliestFrom (programIn sheet) (decode cells) t earliest
@@ -27,48 +21,37 @@ Inv-loop sheet places plan cells a₀ earliest₀ t₀ a earliest t = Surveyed (
 abbrev μ-loop : tie.MeasureT-loop
 μ-loop sheet places plan cells a₀ earliest₀ t₀ a earliest t = t
 
--- src/survey.rt:149:5
 loop-holds : tie.Need-loop-holds Inv-loop μ-loop
 loop-holds c = let arg = c .before .args in
     (survey-start (c .before .pre) (decode-sound (arg .cells .now)), refl, earliest-start (programIn (arg .sheet .now)) (decode (arg .cells .now)) (arg .plan .threads) (replicate mostThreads never) (let n = c .before .pre .threads in omega arith))
 
--- src/survey.rt:150:9
 sub-t : tie.Need-sub-t Inv-loop μ-loop
 sub-t c = c .loop-test .taken
 
--- src/survey.rt:151:47
 at-of-requires : tie.Need-at-of-requires Inv-loop μ-loop
 at-of-requires c κs = omega (arith, c .before .loop .inv .0 .inside, c .loop-test .taken, c .before .before .before .pre .facts .threads-few)
 
--- src/survey.rt:151:13
 fetch-requires : tie.Need-fetch-requires Inv-loop μ-loop
 fetch-requires c κs = (c .before .before .before .before .pre, omega (arith, c .before .before .loop .inv .0 .inside, c .before .loop-test .taken))
 
--- src/survey.rt:152:13
 clock-of-requires : tie.Need-clock-of-requires Inv-loop μ-loop
 clock-of-requires c κs = omega (arith, c .before .before .before .loop .inv .0 .inside, c .before .before .loop-test .taken, c .before .before .before .before .before .pre .facts .threads-few)
 
--- src/survey.rt:153:9
 with-thread-requires : tie.Need-with-thread-requires Inv-loop μ-loop
 with-thread-requires c κs = (omega (arith, c .before .before .before .before .loop .inv .0 .inside, c .before .before .before .loop-test .taken, c .before .before .before .before .before .before .pre .facts .threads-few), (c .clock-of .ensures .1 .1, (c .before .fetch .ensures .greatest-small, fetched-lock (c .before .before .before .before .before .before .pre .facts .locks-few) (c .before .fetch .ensures))))
 
--- src/survey.rt:154:23
 earliest-tick-requires : tie.Need-earliest-tick-requires Inv-loop μ-loop
 earliest-tick-requires c κs = (c .before .clock-of .ensures .1 .0, c .before .before .fetch .ensures .least-small)
 
--- src/survey.rt:154:9
 mul-earliest : tie.Need-mul-earliest Inv-loop μ-loop
 mul-earliest c = omega (arith, c .before .before .before .before .before .before .loop .inv .0 .inside, c .before .before .before .before .before .loop-test .taken, c .before .before .before .before .before .before .before .before .pre .facts .threads-few)
 
--- src/survey.rt:154:9
 array-write-earliest : tie.Need-array-write-earliest Inv-loop μ-loop
 array-write-earliest c = omega (arith, c .before .before .before .before .before .before .loop .inv .0 .inside, c .before .before .before .before .before .loop-test .taken, c .before .before .before .before .before .before .before .before .pre .facts .threads-few)
 
--- src/survey.rt:149:5
 loop-less : tie.Need-loop-less Inv-loop μ-loop
 loop-less c = let more = c .before .before .before .before .before .loop-test .taken in omega arith
 
--- src/survey.rt:149:5
 loop-again : tie.Need-loop-again Inv-loop μ-loop
 loop-again c = let arg = c .before .before .before .before .before .before .before .before .args in
     let fe = (subst (λ (k : ℕ). Fetches (arg .sheet .now) (namesOf (programIn (arg .sheet .now)) (c .before .before .before .before .before .before .loop .t - 1)) k (statementIn (programIn (arg .sheet .now)) (c .before .before .before .before .before .before .loop .t - 1) k) (c .before .before .before .fetch .result)) (c .before .before .before .before .at-of .ensures) (c .before .before .before .fetch .ensures)) in (
@@ -78,7 +61,6 @@ loop-again c = let arg = c .before .before .before .before .before .before .befo
       earliest-again (programIn (arg .sheet .now)) (decode (arg .cells .now)) (c .before .before .before .before .before .before .loop .t) (c .before .before .before .before .before .before .loop .earliest) (c .earliest-tick .result) (c .before .before .clock-of .result .low .0) (omega (arith, c .before .before .before .before .before .before .loop .inv .1, c .before .before .before .before .before .before .loop .inv .0 .inside, c .before .before .before .before .before .loop-test .taken, c .before .before .before .before .before .before .before .before .pre .facts .threads-few)) (c .before .before .before .before .before .loop-test .taken) fe (ap (λ (k : Clock). k .low .0) (c .before .before .clock-of .ensures .0)) (c .earliest-tick .ensures) (c .before .before .before .before .before .before .loop .inv .2),
     )
 
--- src/survey.rt:129:1
 returns : tie.Need-returns Inv-loop μ-loop
 returns c = let arg = c .before .before .before .args in
     let none : c .before .loop .t ≡ 0 = omega (arith, c .loop-test .left) in

@@ -1,3 +1,4 @@
+-- `search::survey::waits` meets its contract. Assumes nothing.
 use mathlib.Core.Path.{sym, ap, subst, _∙_}
 use mathlib.Core.Bool.{not}
 use Prim.Native.Nat.{ℕ}
@@ -10,30 +11,21 @@ use Rattle.search.proofs.survey.Laws.{no-lock}
 use borrow.Author.Needs.{needs}
 use Rattle.search.proofs.survey.waits.Statement.{statement}
 use Rattle.search.proofs.survey.waits.Tie as tie
-use Rattle.search.proofs.survey.waits.Reads as reads
-use Rattle.search.proofs.survey.waits.Lts as lts
-use Rattle.search.proofs.act.may_take.Reads as may-take-reads
-use Rattle.state.proofs.owner_of.Reads as owner-of-reads
 
--- src/survey.rt:58:22
 enum-known-action : tie.Need-enum-known-action
 enum-known-action c = search needs
 
--- src/survey.rt:59:17
 owner-of-requires : tie.Need-owner-of-requires
 owner-of-requires c κs = subst LockThere (c .before .action .given .1) (c .before .before .before .pre .1)
 
--- src/survey.rt:60:14
 may-take-requires : tie.Need-may-take-requires
 may-take-requires c κs = c .before .before .before .before .pre .0
 
--- src/survey.rt:53:1
 returns : tie.Need-returns
 returns c = let arg = c .before .before .before .before .before .args in
     ap not (c .may-take .ensures ∙ ap (λ (o : ℕ). mayTake (arg .t) (ownerOf o)) (c .before .owner-of .ensures))
     ∙ ap (λ (k : Action). waitsAt (arg .t) k (decode (arg .cells .now) .owners)) (sym (c .before .before .before .action .given .1))
 
--- src/survey.rt:53:1
 returns-2 : tie.Need-returns-2
 returns-2 c = let arg = c .before .args in
     no-lock (arg .t) (arg .action) (decode (arg .cells .now) .owners) (c .match .keys2)

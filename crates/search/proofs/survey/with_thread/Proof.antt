@@ -1,42 +1,30 @@
+-- `search::survey::with_thread` meets its contract. Assumes nothing.
 use mathlib.Core.Path.{sym, _∙_}
 use Prim.Native.Nat.{_+_}
 use Rattle.search.specs.Survey.{addLive, addThread}
 use borrow.Author.Needs.{needs}
 use Rattle.search.proofs.survey.with_thread.Statement.{statement}
 use Rattle.search.proofs.survey.with_thread.Tie as tie
-use Rattle.search.proofs.survey.with_thread.Reads as reads
-use Rattle.search.proofs.survey.with_thread.Lts as lts
-use Rattle.search.proofs.fetch.is_halt.Reads as is-halt-reads
-use Rattle.search.proofs.survey.waits.Reads as waits-reads
-use Rattle.search.proofs.survey.with_clock.Reads as with-clock-reads
-use Rattle.search.proofs.survey.with_live.Reads as with-live-reads
 
--- src/survey.rt:99:9
 with-clock-requires : tie.Need-with-clock-requires
 with-clock-requires c κs = search needs
 
--- src/survey.rt:101:8
 is-halt-requires : tie.Need-is-halt-requires
 is-halt-requires c κs = search needs
 
--- src/survey.rt:102:9
 returns : tie.Need-returns
 unfolding addThread
 returns c = rw (sym (c .before .is-halt .ensures) ∙ c .if1 .taken) (c .before .before .with-clock .ensures)
 
--- src/survey.rt:104:15
 add-due : tie.Need-add-due
 add-due c = search needs
 
--- src/survey.rt:105:9
 waits-requires : tie.Need-waits-requires
 waits-requires c κs = (c .before .before .before .before .pre .0, c .before .before .before .before .pre .1 .1 .1)
 
--- src/survey.rt:106:5
 with-live-requires : tie.Need-with-live-requires
 with-live-requires c κs = search needs
 
--- src/survey.rt:93:1
 returns-2 : tie.Need-returns-2
 unfolding addThread
 returns-2 c = let arg = c .before .before .before .before .before .before .args in

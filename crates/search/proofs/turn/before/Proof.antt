@@ -1,3 +1,4 @@
+-- `search::turn::before` meets its contract. Assumes nothing.
 use Rattle.rules.specs.Search.{effect}
 use Rattle.search.proofs.EventLaws.{act-asks, event-makes, acts-length, no-event}
 use mathlib.Core.Path.{refl, sym, ap, subst, _∙_}
@@ -16,20 +17,10 @@ use Rattle.search.specs.declared.act.Event.{Event}
 use borrow.Author.Needs.{needs}
 use Rattle.search.proofs.turn.before.Statement.{statement}
 use Rattle.search.proofs.turn.before.Tie as tie
-use Rattle.search.proofs.turn.before.Reads as reads
-use Rattle.search.proofs.turn.before.Lts as lts
-use Rattle.search.proofs.act.act.Reads as act-reads
-use Rattle.search.proofs.fetch.fetch.Reads as fetch-reads
-use Rattle.search.proofs.survey.greater.Reads as greater-reads
-use Rattle.search.proofs.turn.event.Reads as event-reads
-use Rattle.search.proofs.turn.over.Reads as over-reads
-use Rattle.state.proofs.at_of.Reads as at-of-reads
 
--- src/turn.rt:88:9
 greater-requires : tie.Need-greater-requires
 greater-requires c κs = search needs
 
--- src/turn.rt:90:9
 returns : tie.Need-returns
 returns c = let a = c .before .before .before .args in
     let g = programIn (a .sheet .now) in
@@ -41,19 +32,15 @@ returns c = let a = c .before .before .before .args in
       refl,
     )
 
--- src/turn.rt:92:43
 at-of-requires : tie.Need-at-of-requires
 at-of-requires c κs = omega (arith, c .before .before .before .pre .1 .0, c .before .before .before .pre .0 .facts .threads-few)
 
--- src/turn.rt:92:9
 fetch-requires : tie.Need-fetch-requires
 fetch-requires c κs = (c .before .before .before .before .pre .0, c .before .before .before .before .pre .1 .0)
 
--- src/turn.rt:93:9
 event-requires : tie.Need-event-requires
 event-requires c κs = omega (arith, c .before .before .before .before .before .pre .1 .0, c .before .before .before .before .before .pre .0 .facts .threads-few)
 
--- src/turn.rt:94:9
 act-requires : tie.Need-act-requires
 act-requires c κs = let arg = c .before .before .before .before .before .before .before .args in
     let a = arg in
@@ -64,15 +51,12 @@ act-requires c κs = let arg = c .before .before .before .before .before .before
     let low = c .before .before .before .before .if1 .left in
     act-asks (a .sheet .now) g (a .plan) (a .places .now) (c .before .before .before .before .before .before .before .pre .0) s (a .t) (c .before .before .before .before .before .before .before .pre .1 .0) (c .before .before .before .before .before .greater .result) (a .bound) (c .before .before .fetch .result) fe (omega arith) (c .before .before .before .before .before .before .before .pre .1 .1 .1 .0) (a .work .now) (a .slots) (a .height) (c .before .before .before .before .before .before .before .pre .1 .1 .1 .1 .1 .0) (c .before .before .before .before .before .before .before .pre .1 .1 .1 .1 .1 .1) (c .before .event .result) (c .before .event .ensures)
 
--- src/turn.rt:95:5
 over-requires : tie.Need-over-requires
 over-requires c κs = search needs
 
--- src/turn.rt:68:1
 same-length : tie.Need-same-length
 same-length c = search needs
 
--- src/turn.rt:68:1
 returns-2 : tie.Need-returns-2
 returns-2 c = let arg = c .before .before .before .before .before .before .before .before .before .before .args in
     let a = arg in

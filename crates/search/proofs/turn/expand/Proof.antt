@@ -1,3 +1,4 @@
+-- `search::turn::expand` meets its contract. Assumes nothing.
 use borrow.Author.Needs.{needs}
 use native.Mathlib.Omega.{arith}
 use Prim.Native.Nat.{_-_}
@@ -6,10 +7,6 @@ use Rattle.search.specs.Plan.{programIn}
 use Rattle.search.proofs.ExpandLaws.{Expanding, expand-start, expand-length, expand-height, expand-later, expand-again, expand-done}
 use Rattle.search.proofs.turn.expand.Statement.{statement}
 use Rattle.search.proofs.turn.expand.Tie as tie
-use Rattle.search.proofs.turn.expand.Reads as reads
-use Rattle.search.proofs.turn.expand.Lts as lts
-use Rattle.search.proofs.turn.before.Reads as before-reads
-use Rattle.search.proofs.turn.height_of.Reads as height-of-reads
 
 abbrev Inv-loop : tie.InvT-loop
 Inv-loop sheet places plan cells latest bound work₀ height slots earliest made₀ t₀ work made t = Expanding (programIn sheet) (decode cells) latest bound slots work₀ height work made t
@@ -17,29 +14,23 @@ Inv-loop sheet places plan cells latest bound work₀ height slots earliest made
 abbrev μ-loop : tie.MeasureT-loop
 μ-loop sheet places plan cells latest bound work₀ height slots earliest made₀ t₀ work made t = t
 
--- src/turn.rt:125:5
 loop-holds : tie.Need-loop-holds Inv-loop μ-loop
 loop-holds c = let a = c .before .args in
     let g = programIn (a .sheet .now) in
     expand-start g (decode (a .cells .now)) (a .latest) (a .bound) (a .slots) (a .work .now) (a .height) (a .plan .threads) (c .before .pre .0 .threads) (c .before .pre .1 .1 .1 .1 .1)
 
--- src/turn.rt:126:9
 sub-t : tie.Need-sub-t Inv-loop μ-loop
 sub-t c = c .loop-test .taken
 
--- src/turn.rt:127:13
 height-of-requires : tie.Need-height-of-requires Inv-loop μ-loop
 height-of-requires c κs = tt
 
--- src/turn.rt:135:13
 mul-before : tie.Need-mul-before Inv-loop μ-loop
 mul-before c = search needs
 
--- src/turn.rt:135:13
 array-read-before : tie.Need-array-read-before Inv-loop μ-loop
 array-read-before c = omega (arith, c .before .before .loop .inv .inside, c .before .loop-test .taken, c .before .before .before .before .pre .0 .facts .threads-few)
 
--- src/turn.rt:128:9
 before-requires : tie.Need-before-requires Inv-loop μ-loop
 before-requires c κs = let a = c .before .before .before .before .before .args in
     let g = programIn (a .sheet .now) in
@@ -51,11 +42,9 @@ before-requires c κs = let a = c .before .before .before .before .before .args 
     let high = expand-height g (decode (a .cells .now)) (a .latest) (a .bound) (a .slots) (a .work .now) (a .height) (c .before .before .before .loop .work) (c .before .before .before .loop .made) (c .before .before .before .loop .t) x (c .before .before .before .before .before .pre .1 .1 .1 .1 .1) in
     (c .before .before .before .before .before .pre .0, (omega arith, (c .before .before .before .before .before .pre .1 .0 (c .before .before .before .loop .t - 1) (omega arith) (omega arith), (c .before .before .before .before .before .pre .1 .1 .0, (c .before .before .before .before .before .pre .1 .1 .1 .0, ((omega arith, c .before .before .before .before .before .pre .1 .1 .1 .1 .0 .1), omega (arith, c .before .height-of .ensures)))))))
 
--- src/turn.rt:125:5
 loop-less : tie.Need-loop-less Inv-loop μ-loop
 loop-less c = let more = c .before .before .before .before .loop-test .taken in omega arith
 
--- src/turn.rt:125:5
 loop-again : tie.Need-loop-again Inv-loop μ-loop
 loop-again c = let a = c .before .before .before .before .before .before .before .args in
     let g = programIn (a .sheet .now) in
@@ -63,13 +52,11 @@ loop-again c = let a = c .before .before .before .before .before .before .before
     let more = c .before .before .before .before .loop-test .taken in
     expand-again g (decode (a .cells .now)) (a .latest) (a .bound) (a .slots) (a .work .now) (a .height) (c .before .before .before .before .before .loop .work) (c .before .before .before .before .before .loop .made) (c .before .before .before .before .before .loop .t) x more _ _ (c .before .before2 .ensures .0 (a .work .now) (a .height) (c .before .before .before .height-of .ensures) (expand-later g (decode (a .cells .now)) (a .latest) (a .bound) (a .slots) (a .work .now) (a .height) (c .before .before .before .before .before .loop .work) (c .before .before .before .before .before .loop .made) (c .before .before .before .before .before .loop .t) x more))
 
--- src/turn.rt:107:1
 same-length : tie.Need-same-length Inv-loop μ-loop
 same-length c = let a = c .before .before .before .args in
     let g = programIn (a .sheet .now) in
     expand-length g (decode (a .cells .now)) (a .latest) (a .bound) (a .slots) (a .work .now) (a .height) (c .before .loop .work) (c .before .loop .made) (c .before .loop .t) (c .before .loop .inv)
 
--- src/turn.rt:107:1
 returns : tie.Need-returns Inv-loop μ-loop
 returns c = let a = c .before .before .before .args in
     let g = programIn (a .sheet .now) in

@@ -1,3 +1,4 @@
+-- `search::turn::turn` meets its contract. Assumes nothing.
 use native.Mathlib.Omega.{arith}
 use Rattle.state.specs.Cells.{decode}
 use Rattle.state.specs.Shape.{sizesOf}
@@ -6,17 +7,10 @@ use Rattle.search.proofs.WholeTurn.{turn-ended, turn-stuck, turn-past, 
 use borrow.Author.Needs.{needs}
 use Rattle.search.proofs.turn.turn.Statement.{statement}
 use Rattle.search.proofs.turn.turn.Tie as tie
-use Rattle.search.proofs.turn.turn.Reads as reads
-use Rattle.search.proofs.turn.turn.Lts as lts
-use Rattle.search.proofs.survey.survey_threads.Reads as survey-threads-reads
-use Rattle.search.proofs.turn.as_turned.Reads as as-turned-reads
-use Rattle.search.proofs.turn.expand.Reads as expand-reads
 
--- src/turn.rt:174:9
 survey-threads-requires : tie.Need-survey-threads-requires
 survey-threads-requires c κs = c .before .pre .0
 
--- src/turn.rt:178:9
 returns : tie.Need-returns
 returns c = let a = c .before .before .before .before .before .before .args in
     let g = programIn (a .sheet .now) in
@@ -25,7 +19,6 @@ returns c = let a = c .before .before .before .before .before .before .args in
     let sv = c .before .before .before .before .survey-threads .ensures .0 in
     turn-ended g (sizesOf g) s (a .slots) (a .work .now) (a .height) v sv (c .if1 .taken)
 
--- src/turn.rt:181:9
 returns-2 : tie.Need-returns-2
 returns-2 c = let a = c .before .before .before .before .before .before .before .args in
     let g = programIn (a .sheet .now) in
@@ -34,7 +27,6 @@ returns-2 c = let a = c .before .before .before .before .before .before .before 
     let sv = c .before .before .before .before .before .survey-threads .ensures .0 in
     turn-stuck g (sizesOf g) s (a .slots) (a .work .now) (a .height) v sv (c .before .if1 .left) (c .if2 .taken)
 
--- src/turn.rt:184:9
 returns-3 : tie.Need-returns-3
 returns-3 c = let a = c .before .before .before .before .before .before .before .before .before .before .args in
     let g = programIn (a .sheet .now) in
@@ -43,7 +35,6 @@ returns-3 c = let a = c .before .before .before .before .before .before .before 
     let sv = c .before .before .before .before .before .before .before .before .survey-threads .ensures .0 in
     turn-past g (sizesOf g) s (a .slots) (a .work .now) (a .height) v sv (c .before .before .before .before .if1 .left) (c .before .before .before .if2 .left) (a .plan .limit) (c .before .before .before .before .before .before .before .before .before .before .pre .0 .limit) (c .if3 .taken)
 
--- src/turn.rt:186:9
 expand-requires : tie.Need-expand-requires
 expand-requires c κs = let a = c .before .before .before .before .before .before .before .before .before .before .before .args in
     let g = programIn (a .sheet .now) in
@@ -54,15 +45,12 @@ expand-requires c κs = let a = c .before .before .before .before .before .befor
     let low = c .before .if3 .left in
     (c .before .before .before .before .before .before .before .before .before .before .before .pre .0, (c .before .before .before .before .before .before .before .before .before .survey-threads .ensures .1, (omega arith, (low-small g s (c .before .before .before .before .before .before .before .before .before .before .before .pre .1 .0) (c .before .before .before .before .before .before .before .before .before .before .before .pre .0 .facts .threads-few) v sv, (c .before .before .before .before .before .before .before .before .before .before .before .pre .1 .1 .0, c .before .before .before .before .before .before .before .before .before .before .before .pre .1 .1 .1)))))
 
--- src/turn.rt:198:5
 as-turned-requires : tie.Need-as-turned-requires
 as-turned-requires c κs = tt
 
--- src/turn.rt:161:1
 same-length : tie.Need-same-length
 same-length c = search needs
 
--- src/turn.rt:161:1
 returns-4 : tie.Need-returns-4
 returns-4 c = let a = c .before .before .before .before .before .before .before .before .before .before .before .before .before .before .args in
     let g = programIn (a .sheet .now) in

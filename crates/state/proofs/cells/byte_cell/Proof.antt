@@ -1,11 +1,10 @@
+-- `state::cells::byte_cell` meets its contract. Assumes nothing.
 use borrow.Author.Needs.{needs}
 use native.Mathlib.Omega.{arith}
 use mir.Syntax.{w32}
 use mir.Facts.{toZ-pos}
 use Rattle.state.proofs.cells.byte_cell.Statement.{statement}
 use Rattle.state.proofs.cells.byte_cell.Tie as tie
-use Rattle.state.proofs.cells.byte_cell.Reads as reads
-use Rattle.state.proofs.cells.byte_cell.Lts as lts
 
 cast-result : tie.Need-cast-result
 cast-result c = search needs

@@ -1,3 +1,4 @@
+-- `state::cells::put_owners` meets its contract. Assumes nothing.
 use mir.Syntax.{w32}
 use mir.Val.{toZ, ofZ}
 use mir.Facts.{toZ-ofZ}
@@ -13,9 +14,6 @@ use Rattle.state.specs.Cells.{byteCellsFrom, ownersCells}
 use Rattle.state.proofs.Writing.{put-more, bytes-more, bytes-length, drop-all}
 use Rattle.state.proofs.cells.put_owners.Statement.{statement}
 use Rattle.state.proofs.cells.put_owners.Tie as tie
-use Rattle.state.proofs.cells.put_owners.Reads as reads
-use Rattle.state.proofs.cells.put_owners.Lts as lts
-use Rattle.state.proofs.cells.byte_cell.Reads as byte-cell-reads
 
 abbrev Inv-loop : tie.InvT-loop
 Inv-loop cells₀ v i₀ cells i = (i ≤ 8) × (length cells ≡ 8) × (length cells₀ ≡ 8) × (cells ≡ byteCellsFrom v 0 i ++ drop i cells₀)

@@ -1,3 +1,4 @@
+-- `state::cells::put_thread` meets its contract. Assumes nothing.
 use native.Mathlib.Omega.{arith}
 use lib.ListN.{length, length-set}
 use Rattle.state.proofs.Writing.{thread-written, thread-length, back}
@@ -5,11 +6,6 @@ use mathlib.Core.Path.{ap, sym, _∙_}
 use borrow.Author.Needs.{needs}
 use Rattle.state.proofs.cells.put_thread.Statement.{statement}
 use Rattle.state.proofs.cells.put_thread.Tie as tie
-use Rattle.state.proofs.cells.put_thread.Reads as reads
-use Rattle.state.proofs.cells.put_thread.Lts as lts
-use Rattle.state.proofs.cells.byte_cell.Reads as byte-cell-reads
-use Rattle.state.proofs.cells.put_spans.Reads as put-spans-reads
-use Rattle.state.proofs.cells.time_cell.Reads as time-cell-reads
 
 byte-cell-requires : tie.Need-byte-cell-requires
 byte-cell-requires c κs = search needs

@@ -1,3 +1,4 @@
+-- `state::moves::copy` meets its contract. Assumes nothing.
 use borrow.Author.Needs.{needs}
 use native.Mathlib.Omega.{arith}
 use mathlib.Core.Path.{_≡_, sym, _∙_}
@@ -5,11 +6,9 @@ use Prim.Native.Nat.{ℕ, _-_, _<_, _≤_}
 use lib.ListN.{length, length-set}
 use Rattle.state.specs.Cells.{cellAt}
 use Rattle.state.proofs.Writing.{again}
-use Rattle.state.proofs.Slot.{copied}
+use Rattle.state.proofs.Written.{copied}
 use Rattle.state.proofs.moves.copy.Statement.{statement}
 use Rattle.state.proofs.moves.copy.Tie as tie
-use Rattle.state.proofs.moves.copy.Reads as reads
-use Rattle.state.proofs.moves.copy.Lts as lts
 
 abbrev Inv-loop : tie.InvT-loop
 Inv-loop slot₀ cells i₀ slot i = (i ≤ 100) × (length slot ≡ 100) × (length slot₀ ≡ 100) × ((k : ℕ) → k < i → cellAt slot k ≡ cellAt cells k)
@@ -17,45 +16,35 @@ Inv-loop slot₀ cells i₀ slot i = (i ≤ 100) × (length slot ≡ 100) × (le
 abbrev μ-loop : tie.MeasureT-loop
 μ-loop slot₀ cells i₀ slot i = 100 - i
 
--- src/moves.rt:32:5
 loop-holds : tie.Need-loop-holds Inv-loop μ-loop
 loop-holds c = (search needs, c .pre, c .pre, λ k h. absurd (omega arith))
 
--- src/moves.rt:33:19
 mul-slot : tie.Need-mul-slot Inv-loop μ-loop
 mul-slot c = search needs
 
--- src/moves.rt:33:19
 element-copy-out-slot : tie.Need-element-copy-out-slot Inv-loop μ-loop
 element-copy-out-slot c = search needs
 
--- src/moves.rt:33:9
 mul-t9 : tie.Need-mul-t9 Inv-loop μ-loop
 mul-t9 c = search needs
 
--- src/moves.rt:33:9
 slice-set-from-slot : tie.Need-slice-set-from-slot Inv-loop μ-loop
 slice-set-from-slot c = search needs
 
--- src/moves.rt:34:9
 add-i : tie.Need-add-i Inv-loop μ-loop
 add-i c = search needs
 
--- src/moves.rt:32:5
 loop-less : tie.Need-loop-less Inv-loop μ-loop
 loop-less c = search needs
 
--- src/moves.rt:32:5
 loop-again : tie.Need-loop-again Inv-loop μ-loop
 loop-again c = let inv = c .before .before .loop .inv in
     let b = c .before .before .before .args .cells .now in
     (omega arith, simp length-set (inv .1), inv .2, copied (c .before .before .loop .slot) (c .before .before .loop .i) _ (cellAt b) (omega arith) (inv .3) (again (cellAt b (c .before .before .loop .i)) (c .slot .given)))
 
--- src/moves.rt:27:1
 same-length : tie.Need-same-length Inv-loop μ-loop
 same-length c = c .before .loop .inv .1 ∙ sym (c .before .loop .inv .2)
 
--- src/moves.rt:27:1
 returns : tie.Need-returns Inv-loop μ-loop
 returns c = λ k h. c .before .loop .inv .3 k (omega arith)
 

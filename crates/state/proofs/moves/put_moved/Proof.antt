@@ -1,74 +1,55 @@
+-- `state::moves::put_moved` meets its contract. Assumes nothing.
 use native.Mathlib.Omega.{arith}
-use lib.ListN.{length, length-set}
-use mathlib.Core.Path.{_≡_, ap, sym, _∙_}
-use Rattle.state.proofs.Slot.{move-written}
+use lib.ListN.{length-set}
+use mathlib.Core.Path.{_∙_}
+use Rattle.state.proofs.Written.{move-written}
 use Rattle.state.proofs.Writing.{back}
 use borrow.Author.Needs.{needs}
 use Rattle.state.proofs.moves.put_moved.Statement.{statement}
 use Rattle.state.proofs.moves.put_moved.Tie as tie
-use Rattle.state.proofs.moves.put_moved.Reads as reads
-use Rattle.state.proofs.moves.put_moved.Lts as lts
-use Rattle.state.proofs.cells.byte_cell.Reads as byte-cell-reads
-use Rattle.state.proofs.cells.time_cell.Reads as time-cell-reads
-use Rattle.state.proofs.moves.copy.Reads as copy-reads
 
--- src/moves.rt:43:13
 mul-p : tie.Need-mul-p
 mul-p c = search needs
 
--- src/moves.rt:44:9
 byte-cell-requires : tie.Need-byte-cell-requires
 byte-cell-requires c κs = search needs
 
--- src/moves.rt:45:9
 time-cell-requires : tie.Need-time-cell-requires
 time-cell-requires c κs = search needs
 
--- src/moves.rt:46:9
 time-cell-requires-2 : tie.Need-time-cell-requires-2
 time-cell-requires-2 c κs = search needs
 
--- src/moves.rt:47:5
 copy-requires : tie.Need-copy-requires
 copy-requires c κs = search needs
 
--- src/moves.rt:48:5
 mul-at : tie.Need-mul-at
 mul-at c = search needs
 
--- src/moves.rt:48:5
 slice-set-from-at : tie.Need-slice-set-from-at
 slice-set-from-at c = search needs
 
--- src/moves.rt:49:10
 add-low : tie.Need-add-low
 add-low c = search needs
 
--- src/moves.rt:49:5
 mul-low : tie.Need-mul-low
 mul-low c = search needs
 
--- src/moves.rt:49:5
 slice-set-from-low : tie.Need-slice-set-from-low
 slice-set-from-low c = simp length-set (omega (arith, c .before .before .before .before .before .before .before .pre .1 .thread))
 
--- src/moves.rt:50:10
 add-high : tie.Need-add-high
 add-high c = search needs
 
--- src/moves.rt:50:5
 mul-high : tie.Need-mul-high
 mul-high c = search needs
 
--- src/moves.rt:50:5
 slice-set-from-high : tie.Need-slice-set-from-high
 slice-set-from-high c = simp length-set (omega (arith, c .before .before .before .before .before .before .before .pre .1 .thread))
 
--- src/moves.rt:39:1
 same-length : tie.Need-same-length
 same-length c = search needs
 
--- src/moves.rt:39:1
 returns : tie.Need-returns
 returns c = let s = c .before .before .before .before .before .before .before in
     let b = s .args .cells .now in

@@ -1,43 +1,31 @@
-use native.Mathlib.Omega.{arith}
-use lib.ListN.{length, length-set}
-use mathlib.Core.Path.{_≡_, ap, sym, _∙_}
-use Rattle.state.proofs.Slot.{owner-written}
+-- `state::moves::put_owner` meets its contract. Assumes nothing.
+use mathlib.Core.Path.{ap, _∙_}
+use Rattle.state.proofs.Written.{owner-written}
 use Rattle.state.proofs.Writing.{back}
 use Rattle.state.specs.declared.State.{State}
 use Rattle.state.specs.Access.{withOwner}
 use borrow.Author.Needs.{needs}
 use Rattle.state.proofs.moves.put_owner.Statement.{statement}
 use Rattle.state.proofs.moves.put_owner.Tie as tie
-use Rattle.state.proofs.moves.put_owner.Reads as reads
-use Rattle.state.proofs.moves.put_owner.Lts as lts
-use Rattle.state.proofs.cells.byte_cell.Reads as byte-cell-reads
-use Rattle.state.proofs.moves.put_moved.Reads as put-moved-reads
 
--- src/moves.rt:86:5
 put-moved-requires : tie.Need-put-moved-requires
 put-moved-requires c κs = search needs
 
--- src/moves.rt:87:29
 byte-cell-requires : tie.Need-byte-cell-requires
 byte-cell-requires c κs = search needs
 
--- src/moves.rt:87:10
 add-t10 : tie.Need-add-t10
 add-t10 c = search needs
 
--- src/moves.rt:87:5
 mul-t11 : tie.Need-mul-t11
 mul-t11 c = search needs
 
--- src/moves.rt:87:5
 slice-set-from-slot : tie.Need-slice-set-from-slot
 slice-set-from-slot c = search needs
 
--- src/moves.rt:82:1
 same-length : tie.Need-same-length
 same-length c = search needs
 
--- src/moves.rt:82:1
 returns : tie.Need-returns
 returns c = let s = c .before .before .before .before in
     owner-written (c .before .before .put-moved .last .0) (s .args .l) (s .args .o) _ (c .before .before .put-moved .kept .0 ∙ s .pre .0) (s .pre .1 .1) (c .byte-cell .ensures .1) (back (c .byte-cell .ok) (c .byte-cell .ensures .0))

@@ -1,46 +1,34 @@
-use native.Mathlib.Omega.{arith}
-use lib.ListN.{length, length-set}
-use mathlib.Core.Path.{_≡_, ap, sym, _∙_}
-use Rattle.state.proofs.Slot.{register-written, decode-sound}
+-- `state::moves::put_register` meets its contract. Assumes nothing.
+use mathlib.Core.Path.{ap, _∙_}
+use Rattle.state.proofs.Slot.{decode-sound}
+use Rattle.state.proofs.Written.{register-written}
 use Rattle.state.specs.Access.{threadAt}
 use Rattle.state.specs.Cells.{decode}
 use borrow.Author.Needs.{needs}
 use Rattle.state.proofs.moves.put_register.Statement.{statement}
 use Rattle.state.proofs.moves.put_register.Tie as tie
-use Rattle.state.proofs.moves.put_register.Reads as reads
-use Rattle.state.proofs.moves.put_register.Lts as lts
-use Rattle.state.proofs.cells.put_span.Reads as put-span-reads
-use Rattle.state.proofs.moves.put_moved.Reads as put-moved-reads
 
--- src/moves.rt:58:5
 put-moved-requires : tie.Need-put-moved-requires
 put-moved-requires c κs = search needs
 
--- src/moves.rt:59:20
 mul-put-span : tie.Need-mul-put-span
 mul-put-span c = search needs
 
--- src/moves.rt:59:20
 add-put-span : tie.Need-add-put-span
 add-put-span c = search needs
 
--- src/moves.rt:59:56
 mul-put-span-2 : tie.Need-mul-put-span-2
 mul-put-span-2 c = search needs
 
--- src/moves.rt:59:20
 add-put-span-2 : tie.Need-add-put-span-2
 add-put-span-2 c = search needs
 
--- src/moves.rt:59:5
 put-span-requires : tie.Need-put-span-requires
 put-span-requires c κs = search needs
 
--- src/moves.rt:54:1
 same-length : tie.Need-same-length
 same-length c = search needs
 
--- src/moves.rt:54:1
 returns : tie.Need-returns
 returns c = let s = c .before .before .before .before .before .before .before in
     let b = s .args .cells .now in

@@ -1,7 +1,7 @@
-use native.Mathlib.Omega.{arith}
-use lib.ListN.{length, length-set}
-use mathlib.Core.Path.{_≡_, ap, sym, _∙_}
-use Rattle.state.proofs.Slot.{registers-written, decode-sound}
+-- `state::moves::put_registers` meets its contract. Assumes nothing.
+use mathlib.Core.Path.{ap, _∙_}
+use Rattle.state.proofs.Slot.{decode-sound}
+use Rattle.state.proofs.Written.{registers-written}
 use Rattle.state.specs.Access.{threadAt}
 use Rattle.state.specs.Cells.{decode}
 use borrow.Rule.Slice.PartMut.{putMid}
@@ -11,52 +11,37 @@ use Prim.Native.Nat.{_+_, _*_, _-_}
 use borrow.Author.Needs.{needs}
 use Rattle.state.proofs.moves.put_registers.Statement.{statement}
 use Rattle.state.proofs.moves.put_registers.Tie as tie
-use Rattle.state.proofs.moves.put_registers.Reads as reads
-use Rattle.state.proofs.moves.put_registers.Lts as lts
-use Rattle.state.proofs.cells.put_spans.Reads as put-spans-reads
-use Rattle.state.proofs.moves.put_moved.Reads as put-moved-reads
 
--- src/moves.rt:67:5
 put-moved-requires : tie.Need-put-moved-requires
 put-moved-requires c κs = search needs
 
--- src/moves.rt:68:13
 mul-p : tie.Need-mul-p
 mul-p c = search needs
 
--- src/moves.rt:68:13
 add-p : tie.Need-add-p
 add-p c = search needs
 
--- src/moves.rt:69:28
 add-put-spans : tie.Need-add-put-spans
 add-put-spans c = search needs
 
--- src/moves.rt:69:15
 mul-put-spans : tie.Need-mul-put-spans
 mul-put-spans c = search needs
 
--- src/moves.rt:69:15
 sub-put-spans : tie.Need-sub-put-spans
 sub-put-spans c = search needs
 
--- src/moves.rt:69:15
 part-put-spans-start : tie.Need-part-put-spans-start
 part-put-spans-start c = search needs
 
--- src/moves.rt:69:15
 part-put-spans-end : tie.Need-part-put-spans-end
 part-put-spans-end c = search needs
 
--- src/moves.rt:69:5
 put-spans-requires : tie.Need-put-spans-requires
 put-spans-requires c κs = search needs
 
--- src/moves.rt:63:1
 same-length : tie.Need-same-length
 same-length c = search needs
 
--- src/moves.rt:63:1
 returns : tie.Need-returns
 returns c = let s = c .before .before .before .before .before .before .before in
     let b = s .args .cells .now in

@@ -1,39 +1,28 @@
-use native.Mathlib.Omega.{arith}
-use lib.ListN.{length, length-set}
-use mathlib.Core.Path.{_≡_, ap, sym, _∙_}
-use Rattle.state.proofs.Slot.{variable-written}
+-- `state::moves::put_variable` meets its contract. Assumes nothing.
+use mathlib.Core.Path.{ap, _∙_}
+use Rattle.state.proofs.Written.{variable-written}
 use Rattle.state.specs.declared.State.{State}
 use Rattle.state.specs.Access.{withVar}
 use Rattle.state.specs.Cells.{decode}
 use borrow.Author.Needs.{needs}
 use Rattle.state.proofs.moves.put_variable.Statement.{statement}
 use Rattle.state.proofs.moves.put_variable.Tie as tie
-use Rattle.state.proofs.moves.put_variable.Reads as reads
-use Rattle.state.proofs.moves.put_variable.Lts as lts
-use Rattle.state.proofs.cells.put_span.Reads as put-span-reads
-use Rattle.state.proofs.moves.put_moved.Reads as put-moved-reads
 
--- src/moves.rt:77:5
 put-moved-requires : tie.Need-put-moved-requires
 put-moved-requires c κs = search needs
 
--- src/moves.rt:78:37
 mul-put-span : tie.Need-mul-put-span
 mul-put-span c = search needs
 
--- src/moves.rt:78:20
 add-put-span : tie.Need-add-put-span
 add-put-span c = search needs
 
--- src/moves.rt:78:5
 put-span-requires : tie.Need-put-span-requires
 put-span-requires c κs = search needs
 
--- src/moves.rt:73:1
 same-length : tie.Need-same-length
 same-length c = search needs
 
--- src/moves.rt:73:1
 returns : tie.Need-returns
 returns c = let s = c .before .before .before .before .before .before in
     ap decode (c .before .put-span .ensures) ∙ variable-written (c .before .before .before .before .put-moved .last .0) (s .args .k) (s .args .v) (c .before .before .before .before .put-moved .kept .0 ∙ s .pre .0) (s .pre .1 .1)

@@ -1,33 +1,25 @@
+-- `state::parts::register_of` meets its contract. Assumes nothing.
 use mathlib.Core.Path.{_∙_}
 use Rattle.state.proofs.Slot.{register-is}
 use borrow.Author.Needs.{needs}
 use Rattle.state.proofs.parts.register_of.Statement.{statement}
 use Rattle.state.proofs.parts.register_of.Tie as tie
-use Rattle.state.proofs.parts.register_of.Reads as reads
-use Rattle.state.proofs.parts.register_of.Lts as lts
-use Rattle.state.proofs.parts.span_of.Reads as span-of-reads
 
--- src/parts.rt:107:20
 mul-span-of : tie.Need-mul-span-of
 mul-span-of c = search needs
 
--- src/parts.rt:107:20
 add-span-of : tie.Need-add-span-of
 add-span-of c = search needs
 
--- src/parts.rt:107:49
 mul-span-of-2 : tie.Need-mul-span-of-2
 mul-span-of-2 c = search needs
 
--- src/parts.rt:107:20
 add-span-of-2 : tie.Need-add-span-of-2
 add-span-of-2 c = search needs
 
--- src/parts.rt:107:5
 span-of-requires : tie.Need-span-of-requires
 span-of-requires c κs = search needs
 
--- src/parts.rt:103:1
 returns : tie.Need-returns
 returns c = let arg = c .before .args in
     c .span-of .ensures ∙ register-is (arg .cells .now) (arg .t) (arg .i) (c .before .pre .0) (c .before .pre .1)

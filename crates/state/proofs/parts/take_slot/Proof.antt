@@ -1,3 +1,4 @@
+-- `state::parts::take_slot` meets its contract. Assumes nothing.
 use native.Mathlib.Omega.{arith}
 use mathlib.Core.Path.{_≡_, refl, sym, subst, _∙_}
 use Prim.Native.Nat.{ℕ, _+_, _*_, _-_, _^_, _<_, _≤_}
@@ -6,12 +7,11 @@ use lib.Signed.{mag}
 use lib.IntN.{ℤ}
 use Rattle.state.specs.Cells.{cellAt, slotOf}
 use Rattle.state.proofs.Writing.{again}
-use Rattle.state.proofs.Slot.{copied, copied-each, decode-same, small-timed, slot-cell}
+use Rattle.state.proofs.Slot.{decode-same}
+use Rattle.state.proofs.Written.{copied, copied-each, small-timed, slot-cell}
 use borrow.Author.Needs.{needs}
 use Rattle.state.proofs.parts.take_slot.Statement.{statement}
 use Rattle.state.proofs.parts.take_slot.Tie as tie
-use Rattle.state.proofs.parts.take_slot.Reads as reads
-use Rattle.state.proofs.parts.take_slot.Lts as lts
 
 abbrev Inv-loop : tie.InvT-loop
 Inv-loop work slot from cells₀ i₀ cells i = (i ≤ 100) × (length cells ≡ 100) × (from ≡ slot * 100) × ((k : ℕ) → k < i → cellAt cells k ≡ cellAt work (from + k)) × ((k : ℕ) → k < i → mag (cellAt cells k) < 2 ^ 31)
@@ -19,43 +19,33 @@ Inv-loop work slot from cells₀ i₀ cells i = (i ≤ 100) × (length cells ≡
 abbrev μ-loop : tie.MeasureT-loop
 μ-loop work slot from cells₀ i₀ cells i = 100 - i
 
--- src/parts.rt:23:16
 mul-from : tie.Need-mul-from Inv-loop μ-loop
 mul-from c = search needs
 
--- src/parts.rt:26:5
 loop-holds : tie.Need-loop-holds Inv-loop μ-loop
 loop-holds c = (search needs, refl, refl, (λ k h. absurd (omega arith)), λ k h. absurd (omega arith))
 
--- src/parts.rt:27:25
 add-cells : tie.Need-add-cells Inv-loop μ-loop
 add-cells c = search needs
 
--- src/parts.rt:27:20
 mul-cells : tie.Need-mul-cells Inv-loop μ-loop
 mul-cells c = search needs
 
--- src/parts.rt:27:20
 shared-slice-copy-out-cells : tie.Need-shared-slice-copy-out-cells Inv-loop μ-loop
 shared-slice-copy-out-cells c = search needs
 
--- src/parts.rt:27:9
 mul-cells-2 : tie.Need-mul-cells-2 Inv-loop μ-loop
 mul-cells-2 c = search needs
 
--- src/parts.rt:27:9
 array-set-from-cells : tie.Need-array-set-from-cells Inv-loop μ-loop
 array-set-from-cells c = search needs
 
--- src/parts.rt:28:9
 add-i : tie.Need-add-i Inv-loop μ-loop
 add-i c = search needs
 
--- src/parts.rt:26:5
 loop-less : tie.Need-loop-less Inv-loop μ-loop
 loop-less c = search needs
 
--- src/parts.rt:26:5
 loop-again : tie.Need-loop-again Inv-loop μ-loop
 loop-again c = let arg = c .before .before .before .args in
     let inv = c .before .before .loop .inv in
@@ -69,7 +59,6 @@ loop-again c = let arg = c .before .before .before .args in
       copied-each (λ z. mag z < 2 ^ 31) (c .before .before .loop .cells) (c .before .before .loop .i) _ (omega arith) (inv .4) (subst (λ (z : ℤ). mag z < 2 ^ 31) (sym same) (c .cells .given)),
     )
 
--- src/parts.rt:19:1
 returns : tie.Need-returns Inv-loop μ-loop
 returns c = let arg = c .before .before .args in
     let b = arg .work .now in

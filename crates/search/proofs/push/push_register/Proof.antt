@@ -1,70 +1,53 @@
-use mathlib.Core.Path.{_≡_, refl, sym, ap, _∙_}
+-- `search::push::push_register` meets its contract. Assumes nothing.
+use mathlib.Core.Path.{ap, _∙_}
 use Rattle.search.proofs.PushLaws.{slot-pushed}
 use Rattle.search.proofs.ActLaws.{move-fits, moved-is}
 use Rattle.state.specs.Cells.{decode}
-use Rattle.state.specs.Access.{threadAt, withVar, withOwner}
+use Rattle.state.specs.Access.{threadAt}
 use Rattle.state.specs.Shape.{stateOf}
 use Rattle.state.specs.declared.moves.Move.{Move}
 use Rattle.state.specs.Move.{movedTo}
 use lib.ListN.{getD, set}
 use Rattle.state.proofs.Shape.{regs-set}
-use Rattle.search.specs.Act.{movedBy, movedWith}
+use Rattle.search.specs.Act.{movedBy}
 use borrow.Author.Needs.{needs}
-use Rattle.search.proofs.act.push_register.Statement.{statement}
-use Rattle.search.proofs.act.push_register.Tie as tie
-use Rattle.search.proofs.act.push_register.Reads as reads
-use Rattle.search.proofs.act.push_register.Lts as lts
-use Rattle.search.proofs.act.moving.Reads as moving-reads
-use Rattle.search.proofs.push.next_slot.Reads as next-slot-reads
-use Rattle.search.proofs.push.one_more.Reads as one-more-reads
-use Rattle.state.proofs.put_register.Reads as put-register-reads
+use Rattle.search.proofs.push.push_register.Statement.{statement}
+use Rattle.search.proofs.push.push_register.Tie as tie
 
--- src/act.rt:124:9
 moving-requires : tie.Need-moving-requires
 moving-requires c κs = search needs
 
--- src/act.rt:125:16
 next-slot-requires : tie.Need-next-slot-requires
 next-slot-requires c κs = c .before .pre .0 .room .1
 
--- src/act.rt:125:16
 mul-from : tie.Need-mul-from
 mul-from c = search needs
 
--- src/act.rt:126:34
 add-put-register : tie.Need-add-put-register
 add-put-register c = search needs
 
--- src/act.rt:126:18
 mul-put-register : tie.Need-mul-put-register
 mul-put-register c = search needs
 
--- src/act.rt:126:18
 sub-put-register : tie.Need-sub-put-register
 sub-put-register c = search needs
 
--- src/act.rt:126:18
 part-put-register-start : tie.Need-part-put-register-start
 part-put-register-start c = search needs
 
--- src/act.rt:126:18
 part-put-register-end : tie.Need-part-put-register-end
 part-put-register-end c = search needs
 
--- src/act.rt:126:5
 put-register-requires : tie.Need-put-register-requires
 put-register-requires c κs = let arg = c .before .before .before .args in
     (search needs, (move-fits (arg .v) (c .before .before .moving .result) (arg .at) (c .before .before .before .pre .0 .ticks) (c .before .before .moving .ensures), c .before .before .before .pre .1))
 
--- src/act.rt:127:5
 one-more-requires : tie.Need-one-more-requires
 one-more-requires c κs = (c .before .before .before .before .before .pre .0 .high, search needs)
 
--- src/act.rt:110:1
 same-length : tie.Need-same-length
 same-length c = search needs
 
--- src/act.rt:110:1
 returns : tie.Need-returns
 returns c = let arg = c .before .before .before .before .before .before .args in
     λ z. slot-pushed (arg .work .now) (c .before .before .put-register .last .0) (arg .height) (c .before .before .before .before .next-slot .result) (c .one-more .result) _ (search needs) (c .before .before .before .before .before .before .pre .0 .high) (c .before .before .before .before .before .before .pre .0 .room) (c .before .before .before .before .next-slot .ensures) (c .one-more .ensures)

@@ -1,67 +1,49 @@
-use mathlib.Core.Path.{_≡_, refl, sym, ap, _∙_}
+-- `search::push::push_registers` meets its contract. Assumes nothing.
+use mathlib.Core.Path.{ap, _∙_}
 use Rattle.search.proofs.PushLaws.{slot-pushed}
 use Rattle.search.proofs.ActLaws.{move-fits, moved-is}
 use Rattle.state.specs.Cells.{decode}
-use Rattle.state.specs.Access.{threadAt, withVar, withOwner}
 use Rattle.state.specs.Shape.{stateOf}
 use Rattle.state.specs.declared.moves.Move.{Move}
 use Rattle.state.specs.Move.{movedTo}
 use borrow.Author.Needs.{needs}
-use Rattle.search.proofs.act.push_registers.Statement.{statement}
-use Rattle.search.proofs.act.push_registers.Tie as tie
-use Rattle.search.proofs.act.push_registers.Reads as reads
-use Rattle.search.proofs.act.push_registers.Lts as lts
-use Rattle.search.proofs.act.moving.Reads as moving-reads
-use Rattle.search.proofs.push.next_slot.Reads as next-slot-reads
-use Rattle.search.proofs.push.one_more.Reads as one-more-reads
-use Rattle.state.proofs.put_registers.Reads as put-registers-reads
+use Rattle.search.proofs.push.push_registers.Statement.{statement}
+use Rattle.search.proofs.push.push_registers.Tie as tie
 
--- src/act.rt:143:9
 moving-requires : tie.Need-moving-requires
 moving-requires c κs = search needs
 
--- src/act.rt:144:16
 next-slot-requires : tie.Need-next-slot-requires
 next-slot-requires c κs = c .before .pre .room .1
 
--- src/act.rt:144:16
 mul-from : tie.Need-mul-from
 mul-from c = search needs
 
--- src/act.rt:145:35
 add-put-registers : tie.Need-add-put-registers
 add-put-registers c = search needs
 
--- src/act.rt:145:19
 mul-put-registers : tie.Need-mul-put-registers
 mul-put-registers c = search needs
 
--- src/act.rt:145:19
 sub-put-registers : tie.Need-sub-put-registers
 sub-put-registers c = search needs
 
--- src/act.rt:145:19
 part-put-registers-start : tie.Need-part-put-registers-start
 part-put-registers-start c = search needs
 
--- src/act.rt:145:19
 part-put-registers-end : tie.Need-part-put-registers-end
 part-put-registers-end c = search needs
 
--- src/act.rt:145:5
 put-registers-requires : tie.Need-put-registers-requires
 put-registers-requires c κs = let arg = c .before .before .before .args in
     (search needs, move-fits (arg .v) (c .before .before .moving .result) (arg .at) (c .before .before .before .pre .ticks) (c .before .before .moving .ensures))
 
--- src/act.rt:146:5
 one-more-requires : tie.Need-one-more-requires
 one-more-requires c κs = (c .before .before .before .before .before .pre .high, search needs)
 
--- src/act.rt:130:1
 same-length : tie.Need-same-length
 same-length c = search needs
 
--- src/act.rt:130:1
 returns : tie.Need-returns
 returns c = let arg = c .before .before .before .before .before .before .args in
     λ z. slot-pushed (arg .work .now) (c .before .before .put-registers .last .0) (arg .height) (c .before .before .before .before .next-slot .result) (c .one-more .result) _ (search needs) (c .before .before .before .before .before .before .pre .high) (c .before .before .before .before .before .before .pre .room) (c .before .before .before .before .next-slot .ensures) (c .one-more .ensures)

@@ -1,67 +1,50 @@
-use mathlib.Core.Path.{_≡_, refl, sym, ap, _∙_}
+-- `search::push::push_owner` meets its contract. Assumes nothing.
+use mathlib.Core.Path.{ap, _∙_}
 use Rattle.search.proofs.PushLaws.{slot-pushed}
 use Rattle.search.proofs.ActLaws.{move-fits, moved-owner-is}
 use Rattle.state.specs.Cells.{decode}
-use Rattle.state.specs.Access.{threadAt, withVar, withOwner}
+use Rattle.state.specs.Access.{threadAt, withOwner}
 use Rattle.state.specs.Shape.{stateOf}
 use Rattle.state.specs.declared.moves.Move.{Move}
 use Rattle.state.specs.Move.{movedTo}
 use borrow.Author.Needs.{needs}
-use Rattle.search.proofs.act.push_owner.Statement.{statement}
-use Rattle.search.proofs.act.push_owner.Tie as tie
-use Rattle.search.proofs.act.push_owner.Reads as reads
-use Rattle.search.proofs.act.push_owner.Lts as lts
-use Rattle.search.proofs.act.moving.Reads as moving-reads
-use Rattle.search.proofs.push.next_slot.Reads as next-slot-reads
-use Rattle.search.proofs.push.one_more.Reads as one-more-reads
-use Rattle.state.proofs.put_owner.Reads as put-owner-reads
+use Rattle.search.proofs.push.push_owner.Statement.{statement}
+use Rattle.search.proofs.push.push_owner.Tie as tie
 
--- src/act.rt:183:9
 moving-requires : tie.Need-moving-requires
 moving-requires c κs = search needs
 
--- src/act.rt:184:16
 next-slot-requires : tie.Need-next-slot-requires
 next-slot-requires c κs = c .before .pre .0 .room .1
 
--- src/act.rt:184:16
 mul-from : tie.Need-mul-from
 mul-from c = search needs
 
--- src/act.rt:185:31
 add-put-owner : tie.Need-add-put-owner
 add-put-owner c = search needs
 
--- src/act.rt:185:15
 mul-put-owner : tie.Need-mul-put-owner
 mul-put-owner c = search needs
 
--- src/act.rt:185:15
 sub-put-owner : tie.Need-sub-put-owner
 sub-put-owner c = search needs
 
--- src/act.rt:185:15
 part-put-owner-start : tie.Need-part-put-owner-start
 part-put-owner-start c = search needs
 
--- src/act.rt:185:15
 part-put-owner-end : tie.Need-part-put-owner-end
 part-put-owner-end c = search needs
 
--- src/act.rt:185:5
 put-owner-requires : tie.Need-put-owner-requires
 put-owner-requires c κs = let arg = c .before .before .before .args in
     (search needs, (move-fits (arg .v) (c .before .before .moving .result) (arg .at) (c .before .before .before .pre .0 .ticks) (c .before .before .moving .ensures), c .before .before .before .pre .1))
 
--- src/act.rt:186:5
 one-more-requires : tie.Need-one-more-requires
 one-more-requires c κs = (c .before .before .before .before .before .pre .0 .high, search needs)
 
--- src/act.rt:169:1
 same-length : tie.Need-same-length
 same-length c = search needs
 
--- src/act.rt:169:1
 returns : tie.Need-returns
 returns c = let arg = c .before .before .before .before .before .before .args in
     λ z. slot-pushed (arg .work .now) (c .before .before .put-owner .last .0) (arg .height) (c .before .before .before .before .next-slot .result) (c .one-more .result) _ (search needs) (c .before .before .before .before .before .before .pre .0 .high) (c .before .before .before .before .before .before .pre .0 .room) (c .before .before .before .before .next-slot .ensures) (c .one-more .ensures)

@@ -1,67 +1,50 @@
-use mathlib.Core.Path.{_≡_, refl, sym, ap, _∙_}
+-- `search::push::push_variable` meets its contract. Assumes nothing.
+use mathlib.Core.Path.{ap, _∙_}
 use Rattle.search.proofs.PushLaws.{slot-pushed}
 use Rattle.search.proofs.ActLaws.{move-fits, moved-var-is}
 use Rattle.state.specs.Cells.{decode}
-use Rattle.state.specs.Access.{threadAt, withVar, withOwner}
+use Rattle.state.specs.Access.{threadAt, withVar}
 use Rattle.state.specs.Shape.{stateOf}
 use Rattle.state.specs.declared.moves.Move.{Move}
 use Rattle.state.specs.Move.{movedTo}
 use borrow.Author.Needs.{needs}
-use Rattle.search.proofs.act.push_variable.Statement.{statement}
-use Rattle.search.proofs.act.push_variable.Tie as tie
-use Rattle.search.proofs.act.push_variable.Reads as reads
-use Rattle.search.proofs.act.push_variable.Lts as lts
-use Rattle.search.proofs.act.moving.Reads as moving-reads
-use Rattle.search.proofs.push.next_slot.Reads as next-slot-reads
-use Rattle.search.proofs.push.one_more.Reads as one-more-reads
-use Rattle.state.proofs.put_variable.Reads as put-variable-reads
+use Rattle.search.proofs.push.push_variable.Statement.{statement}
+use Rattle.search.proofs.push.push_variable.Tie as tie
 
--- src/act.rt:163:9
 moving-requires : tie.Need-moving-requires
 moving-requires c κs = search needs
 
--- src/act.rt:164:16
 next-slot-requires : tie.Need-next-slot-requires
 next-slot-requires c κs = c .before .pre .0 .room .1
 
--- src/act.rt:164:16
 mul-from : tie.Need-mul-from
 mul-from c = search needs
 
--- src/act.rt:165:34
 add-put-variable : tie.Need-add-put-variable
 add-put-variable c = search needs
 
--- src/act.rt:165:18
 mul-put-variable : tie.Need-mul-put-variable
 mul-put-variable c = search needs
 
--- src/act.rt:165:18
 sub-put-variable : tie.Need-sub-put-variable
 sub-put-variable c = search needs
 
--- src/act.rt:165:18
 part-put-variable-start : tie.Need-part-put-variable-start
 part-put-variable-start c = search needs
 
--- src/act.rt:165:18
 part-put-variable-end : tie.Need-part-put-variable-end
 part-put-variable-end c = search needs
 
--- src/act.rt:165:5
 put-variable-requires : tie.Need-put-variable-requires
 put-variable-requires c κs = let arg = c .before .before .before .args in
     (search needs, (move-fits (arg .v) (c .before .before .moving .result) (arg .at) (c .before .before .before .pre .0 .ticks) (c .before .before .moving .ensures), c .before .before .before .pre .1))
 
--- src/act.rt:166:5
 one-more-requires : tie.Need-one-more-requires
 one-more-requires c κs = (c .before .before .before .before .before .pre .0 .high, search needs)
 
--- src/act.rt:149:1
 same-length : tie.Need-same-length
 same-length c = search needs
 
--- src/act.rt:149:1
 returns : tie.Need-returns
 returns c = let arg = c .before .before .before .before .before .before .args in
     λ z. slot-pushed (arg .work .now) (c .before .before .put-variable .last .0) (arg .height) (c .before .before .before .before .next-slot .result) (c .one-more .result) _ (search needs) (c .before .before .before .before .before .before .pre .0 .high) (c .before .before .before .before .before .before .pre .0 .room) (c .before .before .before .before .next-slot .ensures) (c .one-more .ensures)
