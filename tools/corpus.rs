@@ -5,6 +5,7 @@
 //!
 //!     corpus make SEED COUNT > FILE     the sheets at the edges, then random ones
 //!     corpus small SEED COUNT > FILE    random sheets under 150 bytes and 100 steps
+//!     corpus plant FILE > FILE          the same, with planted entries among them
 //!     corpus histogram FILE             entries by refusal, sizes, steps
 //!     corpus list FILE                  each entry as text: its numbers, then the sheet
 //!
@@ -19,10 +20,16 @@
 //!       steps             4 bytes
 //!       low               4 bytes
 //!       high              4 bytes
+//!       planted           1 byte
 //!       the sheet's bytes
 //!
-//! An entry's sheet stands 19 bytes after the entry's start, the next entry right
+//! An entry's sheet stands 20 bytes after the entry's start, the next entry right
 //! after the sheet; the last sheet ends the file.
+//!
+//! Planted is 0, but for the entries that try whoever compares. With 1, one of the
+//! five numbers is wrong. With 2, 3 and 4 the numbers are right, and whoever looks
+//! at the buffer after the call changes its first number before that, its last, or
+//! the number right behind it.
 
 #[allow(dead_code)]
 mod generator;
@@ -30,38 +37,88 @@ mod generator;
 mod oracle;
 
 use generator::{answer, fields, Entry, Generator};
-use oracle::{recorded, Answer, Recorded};
-use std::collections::BTreeSet;
+use oracle::{recorded, Answer, Recorded, FRONT, WRONG};
+use std::collections::{BTreeMap, BTreeSet};
 use std::io::Write;
 use std::{env, fs, process};
 
 /// How many entries of each refusal are kept at most, per thousand asked for.
-const SHARES: [usize; 16] = [190, 60, 60, 50, 50, 60, 60, 40, 40, 0, 110, 80, 80, 70, 75, 80];
+const SHARES: [usize; 16] = [230, 60, 60, 50, 50, 60, 60, 40, 40, 0, 110, 80, 80, 70, 75, 80];
 
-const FRONT: usize = 19;
+/// Where an entry's five numbers stand, and what is planted.
+const NUMBERS: std::ops::Range<usize> = 4..19;
+const PLANTED: usize = 19;
+/// The changes of the buffer that are planted.
+const BUFFERS: std::ops::RangeInclusive<u8> = 2..=4;
 
-fn put(out: &mut Vec<u8>, entry: &Entry, answer: &Answer) {
-    out.extend((entry.sheet.len() as u16).to_be_bytes());
-    out.extend((entry.length as u16).to_be_bytes());
-    out.push(answer.refusal);
-    out.extend((answer.place as u16).to_be_bytes());
-    for number in [answer.steps, answer.low, answer.high] {
-        out.extend((number as u32).to_be_bytes());
+impl Recorded {
+    fn new(entry: Entry, answer: Answer) -> Recorded {
+        Recorded { sheet: entry.sheet, length: entry.length, answer, planted: 0 }
     }
-    out.extend(&entry.sheet);
+
+    fn bytes(&self) -> Vec<u8> {
+        let mut bytes = (self.sheet.len() as u16).to_be_bytes().to_vec();
+        bytes.extend((self.length as u16).to_be_bytes());
+        bytes.push(self.answer.refusal);
+        bytes.extend((self.answer.place as u16).to_be_bytes());
+        for number in [self.answer.steps, self.answer.low, self.answer.high] {
+            bytes.extend((number as u32).to_be_bytes());
+        }
+        bytes.push(self.planted);
+        bytes.extend(&self.sheet);
+        bytes
+    }
 }
 
-fn write(entries: &[(Entry, Answer)]) {
-    let mut out = (entries.len() as u32).to_be_bytes().to_vec();
-    for (entry, answer) in entries {
-        put(&mut out, entry, answer);
-    }
+fn write(entries: &[Vec<u8>]) {
+    let out = [(entries.len() as u32).to_be_bytes().to_vec(), entries.concat()].concat();
     if let Err(error) = std::io::stdout().write_all(&out) {
         fail(&error.to_string());
     }
 }
 
-fn make(seed: u64, count: usize) -> Vec<(Entry, Answer)> {
+fn write_all(entries: Vec<Recorded>) {
+    write(&entries.iter().map(Recorded::bytes).collect::<Vec<_>>());
+}
+
+/// The entries, some of them followed by a copy with something planted. Each byte
+/// of the five numbers is wrong in one copy of an accepted sheet, in its lowest
+/// bit, and in one of a refused sheet, in its highest; each change of the buffer is
+/// planted once with either. The copies are spread evenly.
+fn plant(entries: &[Recorded]) -> Vec<Vec<u8>> {
+    let mut copies = BTreeMap::new();
+    for (accepted, bit) in [(true, 0x01), (false, 0x80)] {
+        let fits = |entry: &Recorded| {
+            (entry.answer.refusal == 0) == accepted && entry.planted == 0 && entry.length > 0 && entry.sheet.len() < 300
+        };
+        let fitting: Vec<usize> = (0..entries.len()).filter(|&at| fits(&entries[at])).collect();
+        let count = NUMBERS.len() + BUFFERS.count();
+        if fitting.len() < count {
+            fail("too few entries to plant among");
+        }
+        let mut chosen = (0..count).map(|copy| fitting[(2 * copy + 1) * fitting.len() / (2 * count)]);
+        for byte in NUMBERS {
+            let at = chosen.next().expect("one for each");
+            let mut copy = entries[at].bytes();
+            copy[byte] ^= bit;
+            copy[PLANTED] = WRONG;
+            copies.insert(at, copy);
+        }
+        for (at, change) in chosen.zip(BUFFERS) {
+            let mut copy = entries[at].bytes();
+            copy[PLANTED] = change;
+            copies.insert(at, copy);
+        }
+    }
+    let mut planted = Vec::new();
+    for (at, entry) in entries.iter().enumerate() {
+        planted.push(entry.bytes());
+        planted.extend(copies.remove(&at));
+    }
+    planted
+}
+
+fn make(seed: u64, count: usize) -> Vec<Recorded> {
     let mut generator = Generator::new(seed);
     let mut seen = BTreeSet::new();
     let mut kept = Vec::new();
@@ -69,7 +126,7 @@ fn make(seed: u64, count: usize) -> Vec<(Entry, Answer)> {
     for entry in generator.boundaries() {
         let Some(answer) = answer(&entry.sheet, entry.length) else { continue };
         if seen.insert(entry.clone()) {
-            kept.push((entry, answer));
+            kept.push(Recorded::new(entry, answer));
         }
     }
     let mut tries = 0;
@@ -92,12 +149,12 @@ fn make(seed: u64, count: usize) -> Vec<(Entry, Answer)> {
         }
         *often += 1;
         added += 1;
-        kept.push((entry, answer));
+        kept.push(Recorded::new(entry, answer));
     }
     kept
 }
 
-fn small(seed: u64, count: usize) -> Vec<(Entry, Answer)> {
+fn small(seed: u64, count: usize) -> Vec<Recorded> {
     let mut generator = Generator::new(seed);
     let mut kept = Vec::new();
     let mut of = [0; 16];
@@ -112,7 +169,7 @@ fn small(seed: u64, count: usize) -> Vec<(Entry, Answer)> {
             continue;
         }
         *often += 1;
-        kept.push((entry, answer));
+        kept.push(Recorded::new(entry, answer));
     }
     kept
 }
@@ -122,11 +179,17 @@ fn read(file: &str) -> Vec<Recorded> {
     recorded(&bytes).unwrap_or_else(|| fail(&format!("{file}: not a corpus")))
 }
 
-fn histogram(entries: &[Recorded]) {
+/// The planted entries are counted apart.
+fn histogram(all: &[Recorded]) {
+    let (entries, planted): (Vec<_>, Vec<_>) = all.iter().partition(|entry| entry.planted == 0);
     let bytes: usize = entries.iter().map(|entry| FRONT + entry.sheet.len()).sum();
     let steps: u64 = entries.iter().map(|entry| entry.answer.steps).sum();
     let most = entries.iter().map(|entry| entry.answer.steps).max().unwrap_or(0);
     println!("{} entries, {} bytes, {} steps in all, at most {} in one", entries.len(), bytes + 4, steps, most);
+    if !planted.is_empty() {
+        let wrong = planted.iter().filter(|entry| entry.planted == WRONG).count();
+        println!("planted besides: {} with a wrong number, {} with a changed buffer", wrong, planted.len() - wrong);
+    }
     println!("| refusal | entries |\n|---|---|");
     for refusal in 0..16 {
         let count = entries.iter().filter(|entry| entry.answer.refusal == refusal).count();
@@ -161,9 +224,10 @@ fn histogram(entries: &[Recorded]) {
 }
 
 fn list(entries: &[Recorded]) {
-    for Recorded { sheet, length, answer } in entries {
+    for Recorded { sheet, length, answer, planted } in entries {
         let sheet: String = sheet.iter().map(|byte| format!("{byte:02X}")).collect();
-        println!("{length} {answer} {sheet}");
+        let planted = if *planted == 0 { String::new() } else { format!(" planted {planted}") };
+        println!("{length} {answer} {sheet}{planted}");
     }
 }
 
@@ -180,10 +244,11 @@ fn main() {
     let arguments: Vec<String> = env::args().skip(1).collect();
     let arguments: Vec<&str> = arguments.iter().map(String::as_str).collect();
     match arguments[..] {
-        ["make", seed, count] => write(&make(parsed(seed), parsed(count) as usize)),
-        ["small", seed, count] => write(&small(parsed(seed), parsed(count) as usize)),
+        ["make", seed, count] => write_all(make(parsed(seed), parsed(count) as usize)),
+        ["small", seed, count] => write_all(small(parsed(seed), parsed(count) as usize)),
+        ["plant", file] => write(&plant(&read(file))),
         ["histogram", file] => histogram(&read(file)),
         ["list", file] => list(&read(file)),
-        _ => fail("usage: corpus make SEED COUNT | small SEED COUNT | histogram FILE | list FILE"),
+        _ => fail("usage: corpus make SEED COUNT | small SEED COUNT | plant FILE | histogram FILE | list FILE"),
     }
 }

@@ -551,7 +551,7 @@ impl Generator {
     fn plan(&mut self) -> Plan {
         self.values = self.random.pick(&[Values::Small, Values::Small, Values::Small, Values::Extreme, Values::Any]);
         self.pace = self.random.pick(&[Pace::Unit, Pace::Unit, Pace::Tiny, Pace::Tiny, Pace::Wide, Pace::Huge]);
-        match self.random.below(17) {
+        match self.random.below(27) {
             0 | 1 => self.sequential(),
             2..=4 => self.branching(),
             5 | 6 => self.joined(),
@@ -559,7 +559,10 @@ impl Generator {
             8 | 9 => self.parallel(),
             10..=12 => self.locking(),
             13 => self.looping(),
-            14 => self.messages(),
+            14 | 15 => self.messages(),
+            16..=18 => self.failing_and(),
+            19..=21 => self.emptied(),
+            22..=24 => self.chained(),
             _ => self.mixed(),
         }
     }
@@ -655,6 +658,247 @@ impl Generator {
         let count = self.random.between(1, 2);
         self.probes(count, &registers, &mut statements);
         Plan::of(0, vec![], vec![Thread { registers, statements }])
+    }
+
+    /// Registers of some values each.
+    fn wide_ranges(&mut self, count: usize) -> Vec<Range> {
+        (0..count)
+            .map(|_| {
+                let low = self.random.between(0, 8) as i32 - 4;
+                (low, low + self.random.between(3, 9) as i32)
+            })
+            .collect()
+    }
+
+    /// A comparison that a register's range leaves open: against a constant inside
+    /// it, another register or itself mirrored.
+    fn open_comparison(&mut self, known: &[Range]) -> Condition {
+        let register = self.random.below(known.len());
+        let (low, high) = known[register];
+        let value = low + self.random.below((high - low) as usize) as i32;
+        let own = Register(register as u8);
+        let condition = match self.random.below(12) {
+            0..=3 => Comparison(LESS, own, Constant(value + 1)),
+            4..=7 => Comparison(LESS, Constant(value), own),
+            8 | 9 => Comparison(EQUAL, own, Constant(value)),
+            10 => Comparison(LESS, own, Register(self.random.below(known.len()) as u8)),
+            _ => self.mirrored(register as u8, (low, high)),
+        };
+        if self.random.chance(40) {
+            not(condition)
+        } else {
+            condition
+        }
+    }
+
+    /// A register against a constant less that register.
+    fn mirrored(&mut self, register: u8, (low, high): Range) -> Condition {
+        let sum = low + high + self.random.below(5) as i32 - 2;
+        let other = Operation(19, Box::new(Constant(sum)), Box::new(Register(register)));
+        if self.random.chance(50) {
+            Comparison(LESS, Register(register), other)
+        } else {
+            Comparison(LESS, other, Register(register))
+        }
+    }
+
+    /// One thread that goes on where the condition holds, by the yes state or by
+    /// the no state of an if, and halts where it fails; then it tells the ends of
+    /// the registers from their neighbours.
+    fn followed(&mut self, registers: Vec<Range>, condition: Condition, ends: &[Range]) -> Plan {
+        let yes = self.random.chance(50);
+        let mut statements = if yes {
+            vec![jump(self.times(), 2, &condition), halt()]
+        } else {
+            vec![jump(self.times(), 0, &not(condition))]
+        };
+        for _ in 0..self.random.between(2, 4) {
+            self.end_probe(ends, &mut statements);
+        }
+        statements.push(halt());
+        if !yes {
+            statements[0].rest[1] = statements.len() as u8 - 1;
+        }
+        Plan::of(0, vec![], vec![Thread { registers, statements }])
+    }
+
+    /// A test that comes out otherwise if an end of a register is one further out
+    /// or in, or a divisor that is 0 only then.
+    fn end_probe(&mut self, ends: &[Range], statements: &mut Vec<Statement>) {
+        let register = self.random.below(ends.len());
+        let (low, high) = ends[register];
+        let own = || Register(register as u8);
+        let probe = match self.random.below(12) {
+            0 | 1 => Comparison(LESS, own(), Constant(low)),
+            2 | 3 => Comparison(LESS, own(), Constant(low + 1)),
+            4 | 5 => Comparison(LESS, Constant(high), own()),
+            6 | 7 => Comparison(LESS, Constant(high - 1), own()),
+            8 => Comparison(EQUAL, own(), Constant(self.random.pick(&[low - 1, low, high, high + 1]))),
+            kind => {
+                let divisor = match kind {
+                    9 => Operation(19, Box::new(own()), Box::new(Constant(low - 1))),
+                    10 => Operation(19, Box::new(Constant(high + 1)), Box::new(own())),
+                    _ => Operation(19, Box::new(own()), Box::new(Constant(self.random.pick(&[low, high])))),
+                };
+                let quotient = Operation(DIVIDE, Box::new(Constant(12)), Box::new(divisor));
+                let times = self.times();
+                statements.push(assign(times, register as u8, &quotient));
+                return;
+            }
+        };
+        statements.push(jump(self.times(), statements.len() + 2, &probe));
+        statements.push(skip(self.times()));
+    }
+
+    /// An "and" both of whose sides may fail, followed where it fails: the two
+    /// sides' registers are joined.
+    fn failing_and(&mut self) -> Plan {
+        self.values = Values::Small;
+        loop {
+            let count = self.random.pick(&[1, 2, 2, 3]);
+            let registers = self.wide_ranges(count);
+            let mut part = || self.open_comparison(&registers);
+            let (a, b, c, d) = (part(), part(), part(), part());
+            let (left, right) = match self.random.below(7) {
+                0 => (a, b),
+                1 => (and(a, b), c),
+                2 => (a, and(b, c)),
+                3 => (not(and(a, b)), c),
+                4 => (a, not(and(b, c))),
+                _ => (not(and(a, b)), not(and(c, d))),
+            };
+            let left_fails = all_ends(&registers, &not(left.clone()));
+            let right_fails = all_ends(&registers, &not(right.clone()));
+            let (Some(left_fails), Some(right_fails)) = (left_fails, right_fails) else { continue };
+            if left_fails == right_fails && !self.random.chance(10) {
+                continue;
+            }
+            let fails = not(and(left, right));
+            // alone, or with a part before or after it
+            let whole = match self.random.below(4) {
+                0 => and(self.open_comparison(&registers), fails),
+                1 => and(fails, self.open_comparison(&registers)),
+                _ => fails,
+            };
+            let Some(ends) = all_ends(&registers, &whole) else { continue };
+            if ends == registers && !self.random.chance(20) {
+                continue;
+            }
+            return self.followed(registers, whole, &ends);
+        }
+    }
+
+    /// Two parts that values of a register meet, but none meets both: the second
+    /// part is empty after the first.
+    fn contradiction(&mut self, known: &[Range]) -> (Condition, Condition) {
+        let register = self.random.below(known.len());
+        let (low, high) = known[register];
+        let value = low + self.random.below((high - low) as usize) as i32;
+        let own = || Register(register as u8);
+        let below = Comparison(LESS, own(), Constant(value + 1));
+        let is = |value: i32| Comparison(EQUAL, own(), Constant(value));
+        match self.random.below(10) {
+            0 => (below, Comparison(LESS, Constant(self.random.pick(&[value, value + 1])), own())),
+            1 => (Comparison(LESS, Constant(value), own()), Comparison(LESS, own(), Constant(value + 1))),
+            2 => (below.clone(), not(below)),
+            3 => (is(value), is(value + 1)),
+            4 => (is(value), not(is(value))),
+            // two values are left, and less of the register and itself takes both
+            5..=8 => {
+                let from = not(Comparison(LESS, own(), Constant(value)));
+                let two = and(from, Comparison(LESS, own(), Constant(value + 2)));
+                (two, Comparison(LESS, own(), own()))
+            }
+            _ => {
+                let other = self.random.below(known.len()) as u8;
+                let same = Comparison(EQUAL, own(), Register(other));
+                (and(is(value), same), Comparison(LESS, own(), Register(other)))
+            }
+        }
+    }
+
+    /// A condition with a part in its middle that leaves a register nothing: it
+    /// empties what it stands in, and an "or" around that goes on with the other
+    /// side alone.
+    fn emptied(&mut self) -> Plan {
+        self.values = Values::Small;
+        loop {
+            let count = self.random.pick(&[1, 2, 2, 3]);
+            let registers = self.wide_ranges(count);
+            let (first, second) = self.contradiction(&registers);
+            let mut part = || self.open_comparison(&registers);
+            let (a, b, c) = (part(), part(), part());
+            // an "and" that never holds; a state is made only where it fails
+            if self.random.chance(40) {
+                let never = match self.random.below(3) {
+                    0 => and(a, and(and(first, second), b)),
+                    1 => and(and(a, first), and(second, b)),
+                    _ => and(or(a, b), and(first, and(second, c))),
+                };
+                return self.followed(registers.clone(), not(never), &registers);
+            }
+            let whole = match self.random.below(7) {
+                // the empty side first, then last
+                0 => or(and(first, second), and(a, b)),
+                1 => or(and(a, b), and(first, second)),
+                2 => or(and(and(a, first), and(second, b)), c),
+                3 => or(a, and(and(b, first), and(second, c))),
+                // empty only by what stands before
+                4 => and(and(a, first), or(second, b)),
+                5 => and(and(a, first), or(b, and(second, c))),
+                _ => and(a, and(or(and(first, second), b), c)),
+            };
+            let Some(ends) = all_ends(&registers, &whole) else { continue };
+            if ends == registers && !self.random.chance(20) {
+                continue;
+            }
+            return self.followed(registers, whole, &ends);
+        }
+    }
+
+    /// An "and" whose right side takes an end of a register that its left side
+    /// moves: it is worked out on what the left side leaves where the "and" holds,
+    /// and on the registers before it where the "and" fails.
+    fn chained(&mut self) -> Plan {
+        self.values = Values::Small;
+        loop {
+            let registers = self.wide_ranges(2);
+            let fails = self.random.chance(40);
+            let ((low, high), own, other) = (registers[0], Register(0), Register(1));
+            let value = low + self.random.below((high - low) as usize) as i32;
+            let sum = Constant(low + high + self.random.below(5) as i32 - 2);
+            let mirrored = Operation(19, Box::new(sum), Box::new(own.clone()));
+            let kind = if fails { 3 } else { self.random.below(4) };
+            let (left, right) = if self.random.chance(50) {
+                let right = match kind {
+                    0 => Comparison(LESS, other, own.clone()),
+                    1 => not(Comparison(LESS, own.clone(), other)),
+                    2 => Comparison(EQUAL, own.clone(), other),
+                    _ => Comparison(LESS, own.clone(), mirrored),
+                };
+                (Comparison(LESS, own, Constant(value + 1)), right)
+            } else {
+                let right = match kind {
+                    0 => Comparison(LESS, own.clone(), other),
+                    1 => not(Comparison(LESS, other, own.clone())),
+                    2 => Comparison(EQUAL, own.clone(), other),
+                    _ => Comparison(LESS, mirrored, own.clone()),
+                };
+                (Comparison(LESS, Constant(value), own), right)
+            };
+            let both = and(left.clone(), right.clone());
+            let (whole, otherwise) = if fails {
+                let held = all_ends(&registers, &left).and_then(|held| all_ends(&held, &not(right.clone())));
+                (not(both), hull(held, all_ends(&registers, &not(left))))
+            } else {
+                (both, all_ends(&registers, &and(right, left)))
+            };
+            let Some(ends) = all_ends(&registers, &whole) else { continue };
+            if otherwise.as_ref() == Some(&ends) && !self.random.chance(5) {
+                continue;
+            }
+            return self.followed(registers, whole, &ends);
+        }
     }
 
     /// A part of a condition without a reading, or with one only where another
@@ -1855,6 +2099,58 @@ impl Generator {
             entries.push(Entry { sheet, length });
         }
     }
+}
+
+fn not(condition: Condition) -> Condition {
+    match condition {
+        Not(operand) => *operand,
+        condition => Not(Box::new(condition)),
+    }
+}
+
+fn and(left: Condition, right: Condition) -> Condition {
+    And(Box::new(left), Box::new(right))
+}
+
+fn or(left: Condition, right: Condition) -> Condition {
+    not(and(not(left), not(right)))
+}
+
+/// The ranges of the registers where the condition holds, as the oracle's answers
+/// show them; None if it cannot hold. Values are small.
+fn all_ends(registers: &[Range], condition: &Condition) -> Option<Vec<Range>> {
+    const FAR: u16 = 1000;
+    const MIDDLE: i32 = 64;
+    let reaches = |probe: Condition| {
+        let statements = vec![
+            jump((1, 1), 2, condition),
+            halt(),
+            jump((1, 1), 4, &probe),
+            halt(),
+            skip((FAR, FAR)),
+            halt(),
+        ];
+        let plan = Plan::of(0, vec![], vec![Thread { registers: registers.to_vec(), statements }]);
+        check(&plan.bytes(), PLAIN).high >= u64::from(FAR)
+    };
+    if !reaches(True) {
+        return None;
+    }
+    let at = |value: u32| Constant(value as i32 - MIDDLE);
+    let most = 2 * MIDDLE as u32;
+    let ends = (0..registers.len()).map(|register| {
+        let own = || Register(register as u8);
+        let past_low = least(0, most, |value| reaches(Comparison(LESS, own(), at(value))));
+        let high = least(0, most, |value| !reaches(Comparison(LESS, at(value), own())));
+        (past_low as i32 - 1 - MIDDLE, high as i32 - MIDDLE)
+    });
+    Some(ends.collect())
+}
+
+/// The least ranges that hold both; one that is absent is ignored.
+fn hull(left: Option<Vec<Range>>, right: Option<Vec<Range>>) -> Option<Vec<Range>> {
+    let (Some(left), Some(right)) = (&left, &right) else { return left.or(right) };
+    Some(left.iter().zip(right).map(|(a, b)| (a.0.min(b.0), a.1.max(b.1))).collect())
 }
 
 /// The least number of low..high with the property, which high has and which

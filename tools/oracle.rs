@@ -1206,7 +1206,13 @@ pub struct Recorded {
     pub sheet: Vec<u8>,
     pub length: usize,
     pub answer: Answer,
+    pub planted: u8,
 }
+
+/// Planted in an entry: one of its five numbers is wrong on purpose.
+pub const WRONG: u8 = 1;
+/// What stands before an entry's sheet.
+pub const FRONT: usize = 20;
 
 /// The entries of a corpus, or None if the bytes are not of its form.
 pub fn recorded(bytes: &[u8]) -> Option<Vec<Recorded>> {
@@ -1214,10 +1220,10 @@ pub fn recorded(bytes: &[u8]) -> Option<Vec<Recorded>> {
     let mut rest = &bytes[4..];
     let mut entries = Vec::new();
     for _ in 0..count {
-        let front = rest.get(..19)?;
-        let end = 19 + unsigned(&front[..2]) as usize;
+        let front = rest.get(..FRONT)?;
+        let end = FRONT + unsigned(&front[..2]) as usize;
         entries.push(Recorded {
-            sheet: rest.get(19..end)?.to_vec(),
+            sheet: rest.get(FRONT..end)?.to_vec(),
             length: unsigned(&front[2..4]) as usize,
             answer: Answer {
                 refusal: front[4],
@@ -1226,6 +1232,7 @@ pub fn recorded(bytes: &[u8]) -> Option<Vec<Recorded>> {
                 low: unsigned(&front[11..15]),
                 high: unsigned(&front[15..19]),
             },
+            planted: front[19],
         });
         rest = &rest[end..];
     }
@@ -1233,8 +1240,7 @@ pub fn recorded(bytes: &[u8]) -> Option<Vec<Recorded>> {
 }
 
 /// How many entries are answered otherwise, and how many end in a panic.
-fn changed(entries: &[Recorded]) -> (usize, usize) {
-    panic::set_hook(Box::new(|_| {}));
+fn changed(entries: &[&Recorded]) -> (usize, usize) {
     let (mut otherwise, mut panics) = (0, 0);
     for entry in entries {
         match panic::catch_unwind(|| check(&entry.sheet, entry.length)) {
@@ -1327,8 +1333,13 @@ fn main() {
         ["corpus", file] => {
             let bytes = fs::read(file).unwrap_or_else(|error| fail(format!("{file}: {error}")));
             let entries = recorded(&bytes).unwrap_or_else(|| fail(format!("{file}: not a corpus")));
-            let (otherwise, panics) = changed(&entries);
-            println!("{otherwise} of {} entries are answered otherwise, {panics} end in a panic", entries.len());
+            let (wrong, right): (Vec<_>, Vec<_>) = entries.iter().partition(|entry| entry.planted == WRONG);
+            panic::set_hook(Box::new(|_| {}));
+            let (otherwise, panics) = changed(&right);
+            println!("{otherwise} of {} entries are answered otherwise, {panics} end in a panic", right.len());
+            if !wrong.is_empty() {
+                println!("{} of {} with a wrong number are answered otherwise", changed(&wrong).0, wrong.len());
+            }
         }
         _ => fail(USAGE),
     }

@@ -33,9 +33,9 @@ import re
 import struct
 import sys
 
-HEADERS = ("limit", "budget", "label", "locks")
+HEADERS = {"limit": "I", "budget": "I", "label": "II", "locks": "B"}  # and how their numbers are packed
 TOKEN = re.compile(r"\s*(?:(\d+)|(r\d+)|(true|false)|(==|&&|[-+*/<!()]))")
-OPERATORS = {"+": 18, "-": 19, "*": 20, "/": 21}
+OPERATORS = {"+": 18, "-": 19, "*": 20, "/": 21, "&&": 35}
 COMPARISONS = {"==": 36, "<": 37}
 
 
@@ -91,13 +91,12 @@ class Expression:
         return result
 
     def chain(self, operators, operand):
-        """Operands joined from left to right."""
-        left = operand()
-        while True:
-            operator = self.take(*operators)
-            if not operator:
-                return left
-            left = packed("B", OPERATORS[operator]) + left + operand()
+        """Operands joined from left to right: so the last operator stands first."""
+        codes, operands = [], [operand()]
+        while operator := self.take(*operators):
+            codes.append(OPERATORS[operator])
+            operands.append(operand())
+        return bytes(reversed(codes)) + b"".join(operands)
 
     def arithmetic(self):
         return self.chain("+-", lambda: self.chain("*/", self.operand))
@@ -119,10 +118,7 @@ class Expression:
         return packed("BB", 17, int(token[1:]))
 
     def condition(self):
-        left = self.negation()
-        while self.take("&&"):
-            left = packed("B", 35) + left + self.negation()
-        return left
+        return self.chain(("&&",), self.negation)
 
     def negation(self):
         if self.take("!"):
@@ -161,6 +157,12 @@ def condition(text):
     return expression.end(expression.condition())
 
 
+def whole(text):
+    if not re.fullmatch(r"-?\d+", text):
+        raise SheetError(f"a number expected, found {text!r}")
+    return int(text)
+
+
 def span(text):
     """The two numbers of low..high."""
     match = re.fullmatch(r"(-?\d+)\.\.(-?\d+)", text.strip())
@@ -193,51 +195,80 @@ def statement(line):
     raise SheetError("not a statement")
 
 
-def assemble(lines):
-    """The bytes of a sheet."""
-    headers = {}
-    variables = b""
-    threads = []  # registers and statements of each thread, as lists of fields
+def item(line):
+    """What stands on a line, without its comment."""
+    return " ".join(line.split("#")[0].split())
 
-    def add(line):
-        nonlocal variables
+
+class Sheet:
+    """The items of a sheet, each with the number of its line."""
+
+    def __init__(self):
+        self.headers = {}  # the word: its line, its numbers as bytes
+        self.variables = []  # line, field
+        self.threads = []  # line, registers (line, field), statements (line, field)
+
+    def add(self, number, line):
         word, _, rest = line.partition(" ")
         if word in HEADERS:
-            if threads or variables or word in headers:
+            if self.threads or self.variables or word in self.headers:
                 raise SheetError(f"{word!r} is out of place")
-            headers[word] = span(rest) if word == "label" else (int(rest),)
+            numbers = span(rest) if word == "label" else (whole(rest),)
+            self.headers[word] = number, packed(HEADERS[word], *numbers)
         elif word == "var":
-            if threads:
+            if self.threads:
                 raise SheetError("variables come before the threads")
-            variables += field(2, packed("ii", *span(rest)))
+            self.variables.append((number, field(2, packed("ii", *span(rest)))))
         elif line == "thread":
-            threads.append(([], []))
-        elif not threads:
+            self.threads.append((number, [], []))
+        elif not self.threads:
             raise SheetError("a header, a variable or a thread expected")
         elif word == "reg":
-            if threads[-1][1]:
+            _, registers, statements = self.threads[-1]
+            if statements:
                 raise SheetError("registers come before the statements")
-            threads[-1][0].append(field(5, packed("ii", *span(rest))))
+            registers.append((number, field(5, packed("ii", *span(rest)))))
+            packed("B", len(registers))  # their number must fit the thread's field
         else:
-            threads[-1][1].append(field(6, statement(line)))
+            self.threads[-1][2].append((number, field(6, statement(line))))
 
+    def fields(self):
+        """The fields in order, each with its line. Limit, budget and label are one field, told by three lines."""
+        for word in HEADERS:
+            if word not in self.headers:
+                raise SheetError(f"no {word!r} line")
+        lines, numbers = zip(*(self.headers[word] for word in HEADERS))
+        yield lines[:3], field(1, b"".join(numbers[:3]))
+        yield lines[3:], field(3, numbers[3])
+        for number, variable in self.variables:
+            yield [number], variable
+        for number, registers, statements in self.threads:
+            yield [number], field(4, packed("B", len(registers)))
+            for number, part in registers + statements:
+                yield [number], part
+
+
+def assemble_with_lines(lines):
+    """The bytes of a sheet, and a list of (offset, line number): where each field starts, and a line that tells it."""
+    text = Sheet()
     for number, line in enumerate(lines, 1):
-        line = " ".join(line.split("#")[0].split())
-        if not line:
-            continue
         try:
-            add(line)
+            if item(line):
+                text.add(number, item(line))
+        except RecursionError:
+            raise SheetError(f"line {number}: nested too deeply to be read") from None
         except (SheetError, ValueError) as error:
             raise SheetError(f"line {number}: {error}") from None
-    for word in HEADERS:
-        if word not in headers:
-            raise SheetError(f"no {word!r} line")
+    sheet, places = bytearray(), []
+    for numbers, part in text.fields():
+        places += [(len(sheet), number) for number in numbers]
+        sheet += part
+    return bytes(sheet), places
 
-    sheet = field(1, packed("IIII", *headers["limit"], *headers["budget"], *headers["label"]))
-    sheet += field(3, packed("B", *headers["locks"])) + variables
-    for registers, statements in threads:
-        sheet += field(4, packed("B", len(registers))) + b"".join(registers + statements)
-    return sheet
+
+def assemble(lines):
+    """The bytes of a sheet."""
+    return assemble_with_lines(lines)[0]
 
 
 def main(arguments):
@@ -251,7 +282,7 @@ def main(arguments):
         else:
             with open(files[0], encoding="utf-8") as text:
                 sheet = assemble(text)
-    except (OSError, SheetError) as error:
+    except (OSError, SheetError, UnicodeDecodeError) as error:
         sys.exit(f"sheet.py: {error}")
     if hexadecimal:
         print(sheet.hex().upper())

@@ -7,8 +7,9 @@ Each slip is a name, what it does, and edits of tools/oracle.rs (old text, which
 stands there exactly once, and new text). The edited oracle is compiled and
 answers the corpus; the table printed gives the entries it answers otherwise, and
 those on which it panics. An oracle that does not end in time has been noticed too. A
-second table has the changes that only say a rule in other words. Exit status 0 if
-every slip is noticed and no other change is.
+second table has the changes that only say a rule in other words, a third what the
+search comes to on how many entries, counted by a panic put there. Exit status 0 if
+every slip is noticed, no change of words is, and all of the third table is come to.
 """
 
 import os
@@ -22,6 +23,7 @@ SECONDS = 60
 
 SLIPS = []
 SAME = []
+REACHED = []
 
 
 def slip(name, what, *edits):
@@ -31,6 +33,11 @@ def slip(name, what, *edits):
 def same(name, why, *edits):
     """A rule in other words."""
     SAME.append((name, why, edits))
+
+
+def reach(name, *edits):
+    """A panic where the search comes to this."""
+    REACHED.append((name, edits))
 
 
 def constant(name, old, new):
@@ -283,6 +290,24 @@ slip("no of and: empty not ignored", "no: an empty side of and empties the join"
      ("            left_may_fail || right_may_fail\n", "            left_may_fail && right_may_fail\n"))
 slip("no of and: left empty only", "no: and is empty if its left is",
      ("            left_may_fail || right_may_fail\n", "            left_may_fail\n"))
+slip("no of and: right empty only", "no: and is empty if its right is",
+     ("            left_may_fail || right_may_fail\n", "            right_may_fail\n"))
+slip("no of and: empty side joined", "no: an empty side of and is joined, its registers as far as they were narrowed",
+     ("            if left_may_fail && right_may_fail {\n", "            if left_may_fail || right_may_fail {\n"))
+slip("no of and: empty side keeps", "no: and keeps the registers as they are where one of its sides is empty",
+     ("            let mut other = *registers;\n            let left_may_fail", "            let before = *registers;\n            let mut other = *registers;\n            let left_may_fail"),
+     ("            } else if left_may_fail {\n                *registers = other;\n", "            } else {\n                *registers = before;\n"))
+slip("no of and: apart not joined", "no: where the two sides' ranges of a register do not meet, the right's is kept",
+     ("                for (register, other) in registers.iter_mut().zip(&other) {\n                    register.low = register.low.min(other.low);",
+      "                for (register, other) in registers.iter_mut().zip(&other) {\n                    if register.high < other.low || other.high < register.low {\n                        continue;\n                    }\n"
+      "                    register.low = register.low.min(other.low);"))
+slip("no of and: one register joined", "no: the join of and is of register 0 only, the others are the right's",
+     ("                for (register, other) in registers.iter_mut().zip(&other) {\n                    register.low = register.low.min(other.low);",
+      "                for (register, other) in registers.iter_mut().zip(&other).take(1) {\n                    register.low = register.low.min(other.low);"))
+slip("and: empty left forgotten", "yes: and is empty only if its right is",
+     ("if yes => narrow(left, true, registers) && narrow(right, true, registers),", "if yes => {\n            narrow(left, true, registers);\n            narrow(right, true, registers)\n        }"))
+slip("and: empty right forgotten", "yes: and is empty only if its left is",
+     ("if yes => narrow(left, true, registers) && narrow(right, true, registers),", "if yes => narrow(left, true, registers) && (narrow(right, true, registers) || true),"))
 slip("negation keeps yes", "negation does not turn yes into no", ("narrow(operand, !yes, registers)", "narrow(operand, yes, registers)"))
 slip("equal: left not narrowed", "yes: equal narrows the right register only",
      ("                raise(left, meet.low, registers)\n                    && lower(left, meet.high, registers)\n                    && raise(right,", "                raise(right,"))
@@ -323,6 +348,8 @@ slip("low set, not raised", "a low becomes the bound though it was above it", ("
 slip("high set, not lowered", "a high becomes the bound though it was below it", ("        register.high = register.high.min(bound);", "        register.high = bound;"))
 slip("register of nothing kept", "a register narrowed to nothing does not empty the state",
      ("        register.low = register.low.max(bound);\n        return register.low <= register.high;", "        register.low = register.low.max(bound);"))
+slip("register of nothing becomes one value", "a register narrowed to nothing has its high left",
+     ("        register.low = register.low.max(bound);\n", "        register.low = register.low.max(bound).min(register.high);\n"))
 slip("empty states kept", "an empty branch is followed", ("                if !narrow(condition, yes, &mut own.registers) {", "                if !narrow(condition, yes, &mut own.registers) && false {"))
 slip("no before yes", "the no state is made before the yes state", ("[(true, *target), (false, next)]", "[(false, next), (true, *target)]"))
 slip("branches not narrowed", "the registers stay as they were in both branches",
@@ -472,12 +499,34 @@ same("a lowered register is not empty", "the tests before it leave a value where
      ("        register.high = register.high.min(bound);\n        return register.low <= register.high;", "        register.high = register.high.min(bound);"))
 same("less worked out again", "lowering the left's high leaves its low, the only end that the right's rule takes",
      (" && raise(right, a.low + 1, registers)", " && {\n                    let (a, _) = both(left, right, registers);\n                    raise(right, a.low + 1, registers)\n                }"))
+same("a sure branch keeps", "where one state of an if is empty, nothing is taken from the registers of the other",
+     ("                if !narrow(condition, yes, &mut own.registers) {",
+      "                let sure = !narrow(condition, !yes, &mut own.registers.clone());\n                if !sure && !narrow(condition, yes, &mut own.registers) {"))
 same("fifth thread before its tag", "where four threads have closed, only tag 4 or the end can follow",
      ("        if reader.tag()? != 4 {\n            return refuse(OUT_OF_TURN, place);\n        }\n        if threads.len() == MAX_THREADS {\n            return refuse(TOO_MANY, place);\n        }\n",
       "        let tag = reader.tag()?;\n        if threads.len() == MAX_THREADS {\n            return refuse(TOO_MANY, place);\n        }\n        if tag != 4 {\n            return refuse(OUT_OF_TURN, place);\n        }\n"))
 same("variable before register", "a store's absent register and variable are both 5 at the same place",
      ("Action::Store { register: name(5, names.registers)?, variable: name(6, names.variables)? }",
       "Action::Store { variable: name(6, names.variables)?, register: name(5, names.registers)? }"))
+
+
+# ---- what the entries come to
+
+reach("both sides of an and may fail", ("            if left_may_fail && right_may_fail {\n", "            if left_may_fail && right_may_fail {\n                panic!();\n"))
+reach("both sides of an and may fail, with other registers",
+      ("            if left_may_fail && right_may_fail {\n", "            if left_may_fail && right_may_fail {\n                assert!(other == *registers);\n"))
+reach("both sides of an and may fail, and the join is not what was there before",
+      ("            let mut other = *registers;\n            let left_may_fail", "            let before = *registers;\n            let mut other = *registers;\n            let left_may_fail"),
+      ("            } else if left_may_fail {\n                *registers = other;\n            }\n",
+       "                assert!(before == *registers);\n            } else if left_may_fail {\n                *registers = other;\n            }\n"))
+reach("one side of an and that fails is empty",
+      ("            left_may_fail || right_may_fail\n", "            assert!(left_may_fail == right_may_fail);\n            left_may_fail || right_may_fail\n"))
+reach("the right of an and is empty after its left, not by itself",
+      ("if yes => narrow(left, true, registers) && narrow(right, true, registers),",
+       "if yes => {\n            let alone = narrow(right, true, &mut registers.clone());\n            let left = narrow(left, true, registers);\n            let right = left && narrow(right, true, registers);\n"
+       "            assert!(!alone || !left || right);\n            right\n        }"))
+reach("a register is narrowed to nothing",
+      ("        register.low = register.low.max(bound);\n", "        register.low = register.low.max(bound);\n        assert!(register.low <= register.high);\n"))
 
 
 def edited(text, name, edits):
@@ -488,8 +537,8 @@ def edited(text, name, edits):
     return text
 
 
-def changed(text, corpus, folder):
-    """What the oracle of this text makes of the corpus."""
+def compiled(text, folder):
+    """The oracle of this text."""
     source, program = os.path.join(folder, "oracle.rs"), os.path.join(folder, "oracle")
     with open(source, "w", encoding="utf-8") as file:
         file.write(text)
@@ -498,14 +547,27 @@ def changed(text, corpus, folder):
                               capture_output=True, text=True)
     if compiler.returncode != 0:
         sys.exit(compiler.stderr)
+    return program
+
+
+def answered(text, corpus, folder):
+    """How many entries the oracle of this text answers otherwise, and on how many it panics; or what else it does."""
     try:
-        run = subprocess.run([program, "corpus", corpus], capture_output=True, text=True, timeout=SECONDS)
+        run = subprocess.run([compiled(text, folder), "corpus", corpus], capture_output=True, text=True, timeout=SECONDS)
     except subprocess.TimeoutExpired:
         return "no end"
     found = re.match(r"(\d+) of \d+ entries are answered otherwise, (\d+) end in a panic", run.stdout)
     if run.returncode != 0 or not found:
         return "no answer"
-    otherwise, panics = int(found.group(1)), int(found.group(2))
+    return int(found.group(1)), int(found.group(2))
+
+
+def changed(text, corpus, folder):
+    """What the oracle of this text makes of the corpus, in words for the table; 0 for nothing otherwise."""
+    found = answered(text, corpus, folder)
+    if isinstance(found, str):
+        return found
+    otherwise, panics = found
     return f"{otherwise} and {panics} panics" if panics else otherwise
 
 
@@ -531,8 +593,17 @@ def main(arguments):
                 noticed[-1] += count != 0
                 print(f"| {name} | {what} | {count} |", flush=True)
             print()
-    print(f"{len(tables[0])} slips, {len(tables[0]) - noticed[0]} unnoticed; {len(tables[1])} same rules, {noticed[1]} noticed")
-    sys.exit(noticed != [len(tables[0]), 0])
+        print("| what the search comes to | entries |\n|---|---|")
+        missing = 0
+        for name, edits in REACHED:
+            if only in name:
+                found = answered(edited(oracle, name, edits), arguments[0], folder)
+                missing += found == (0, 0)
+                print(f"| {name} | {found[1]} |", flush=True)
+        print()
+    print(f"{len(tables[0])} slips, {len(tables[0]) - noticed[0]} unnoticed; {len(tables[1])} same rules, {noticed[1]} noticed; "
+          f"{missing} of the last table without an entry")
+    sys.exit(noticed != [len(tables[0]), 0] or missing > 0)
 
 
 if __name__ == "__main__":

@@ -14,6 +14,8 @@
 
 #define STACK ((size_t)1 << 18)
 #define PAINT 0xA5
+#define FRONT 20 /* bytes before an entry's sheet */
+#define WRONG 1  /* planted in an entry: one of its numbers is wrong on purpose */
 
 static unsigned char stack[STACK] __attribute__((aligned(4096)));
 static const uint8_t *sheet;
@@ -55,12 +57,12 @@ int main(int count, char **arguments)
     }
     size_t length = fread(corpus, 1, sizeof corpus, file), entries = 0, most = 0, most_entry = 0;
     fclose(file);
-    for (size_t at = 4; at + 19 <= length; at += 19 + sheet_length, entries++) {
+    for (size_t at = 4; at + FRONT <= length; at += FRONT + sheet_length, entries++) {
         pthread_attr_t attributes;
         pthread_t thread;
         sheet_length = number(corpus + at, 2);
         work_length = number(corpus + at + 2, 2);
-        sheet = corpus + at + 19;
+        sheet = corpus + at + FRONT;
         pthread_attr_init(&attributes);
         if (pthread_attr_setstack(&attributes, stack, STACK) != 0
             || pthread_create(&thread, &attributes, painted, NULL) != 0 || pthread_join(thread, NULL) != 0) {
@@ -68,7 +70,7 @@ int main(int count, char **arguments)
             return 2;
         }
         pthread_attr_destroy(&attributes);
-        if (answer[0] != corpus[at + 4] || answer[2] != number(corpus + at + 7, 4)) {
+        if (corpus[at + 19] != WRONG && (answer[0] != corpus[at + 4] || answer[2] != number(corpus + at + 7, 4))) {
             fprintf(stderr, "stack: entry %zu is answered otherwise\n", entries);
             return 1;
         }

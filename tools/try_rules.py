@@ -2,7 +2,7 @@
 """Compares the formal definitions of crates/rules with the oracle.
 
     try_rules.py SEED COUNT       random small sheets (tools/corpus.rs)
-    try_rules.py CORPUS           a corpus, but for long sheets that are read far
+    try_rules.py CORPUS           a corpus, but for wrong entries and long sheets that are read far
 
 States of each sheet, beside a scratch copy of the definitions, that `answer`
 gives the oracle's five numbers: one definition a sheet, proved by computing.
@@ -20,7 +20,8 @@ ROOT = os.path.dirname(TOOLS)
 RULES = os.path.join(ROOT, "crates", "rules")
 SCRATCH = os.path.join(ROOT, "target", "try", "rules")
 PER_FILE = 50
-FRONT = 19
+FRONT = 20
+WRONG = 1  # planted in an entry
 MOST_BYTES = 1000
 TOO_LONG = 9
 
@@ -36,13 +37,14 @@ def number(data):
 
 
 def entries(data):
-    """Each entry's sheet, buffer length and five numbers."""
+    """Each entry's sheet, buffer length and five numbers; not those whose numbers are wrong on purpose."""
     at = 4
     for _ in range(number(data[:4])):
         front = data[at:at + FRONT]
         at += FRONT + number(front[:2])
         five = (front[4], number(front[5:7]), number(front[7:11]), number(front[11:15]), number(front[15:19]))
-        yield data[at - number(front[:2]):at], number(front[2:4]), five
+        if front[19] != WRONG:
+            yield data[at - number(front[:2]):at], number(front[2:4]), five
 
 
 def last_place(fact):

@@ -18,6 +18,7 @@ import sys
 import sheet
 
 ROOM = 12000  # numbers lent, unless the paper says otherwise
+NOT_PLANTED = 0
 
 
 def text(body, limit=10, budget=100, label=(0, 10), locks=0):
@@ -124,7 +125,7 @@ SHEETS = [
 
 
 def entry(data, lent, five):
-    return struct.pack(">HHBHIII", len(data), lent, *five) + data
+    return struct.pack(">HHBHIIIB", len(data), lent, *five, NOT_PLANTED) + data
 
 
 def corpus(entries):

@@ -17,8 +17,11 @@ extern "C" {
  *     refusal   0: the label may stay; 1 to 15: why not
  *     place     the offset in the sheet that refusals 1 to 10 name, else 0
  *     steps     the steps that the search took, 0 if the sheet does not read
- *     low       the least finishing tick, for refusals 0 and 15, else 0
- *     high      the greatest finishing tick, likewise
+ *     low       for refusals 0 and 15 the window's low end, else 0
+ *     high      likewise its high end
+ *
+ * It is proved that no run of an accepted sheet finishes before low or after high. That some run finishes at low, or at high, is
+ * not shown: the rules may give a wider window than the runs need.
  *
  * An array of fewer than five numbers is left as it is, and the numbers after the fifth too. The refusal is returned.
  *

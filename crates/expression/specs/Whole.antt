@@ -2,6 +2,7 @@
 use mathlib.Core.Path.{_≡_}
 use mathlib.Core.Option.{Option, none}
 use Prim.Native.Nat.{ℕ}
+use Rattle.rules.specs.Base.{Free}
 use Rattle.rules.specs.Refusal.{Result, fault, badExpression}
 use Rattle.rules.specs.Program.{Condition}
 use Rattle.rules.specs.Expression.{Regs}
@@ -26,3 +27,6 @@ pub record Branches (n : ℕ) (rs : Regs) (g : Got Condition) (b : Branch) : Typ
   pub check : checkOf (b .check) ≡ resultIn (partsIn rs g)
   pub yes : narrowedOf n (b .yes) ≡ leftIn (yesIn rs g)
   pub no : narrowedOf n (b .no) ≡ leftIn (noIn rs g)
+  -- the registers of an empty way, and those past the n that the thread has
+  pub yes-others : Free (b .yes .regs)
+  pub no-others : Free (b .no .regs)

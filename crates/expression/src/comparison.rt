@@ -22,7 +22,7 @@ ghost use Rattle.expression.specs.Comparison.{registerAt, sideAt, sideOf
 // ---- a side of a comparison
 
 // A side that is one register, by its number, or any other expression.
-pub enum Side {
+pub(crate) enum Side {
     Register(usize),
     Other,
 }
@@ -53,7 +53,7 @@ pub(crate) fn side_at(s: &[u8], at: usize, end: usize) -> Side
 
 // ---- registers cut
 
-pub enum Cut {
+enum Cut {
     Meet(Span),
     AtMost(Val),
     AtLeast(Val),
@@ -75,7 +75,7 @@ pub struct Narrowed {
     pub regs: [Span; 8],
 }
 
-pub fn kept(regs: [Span; 8]) -> Narrowed
+pub(crate) fn kept(regs: [Span; 8]) -> Narrowed
     ensures { λ r. ⌜ ((n : ℕ) → narrowedOf n r ≡ some (regsOf n regs)) ⌝ }
 {
     Narrowed {
@@ -84,7 +84,7 @@ pub fn kept(regs: [Span; 8]) -> Narrowed
     }
 }
 
-pub fn emptied(regs: [Span; 8]) -> Narrowed
+pub(crate) fn emptied(regs: [Span; 8]) -> Narrowed
     ensures { λ r. ⌜ ((n : ℕ) → narrowedOf n r ≡ none) ⌝ }
 {
     Narrowed {

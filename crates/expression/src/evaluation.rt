@@ -15,7 +15,7 @@ ghost use Rattle.rules.specs.Format.{readConstant, readRegister, readArith};
 ghost use Rattle.expression.specs.Evaluation.{regsOf, evaluatedOf, evaluatedIn};
 
 // A reading and the place behind the expression; Unread where no expression stands, of which `read_arith` has the refusal.
-pub enum Evaluated {
+pub(crate) enum Evaluated {
     Read(Reading, usize),
     Unread,
 }

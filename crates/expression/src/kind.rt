@@ -6,7 +6,7 @@ ghost use lib.ListN.{length};
 ghost use Rattle.rules.specs.Format.{arithKind, arithAt, conditionKind, conditionAt};
 ghost use Rattle.expression.specs.Kind.{arithKindOf, conditionKindOf};
 
-pub enum ArithKind {
+pub(crate) enum ArithKind {
     Constant,
     Register,
     Operation(Operator),
@@ -39,12 +39,12 @@ pub(crate) fn arith_at(s: &[u8], at: usize, end: usize) -> ArithKind
     }
 }
 
-pub enum Relation {
+pub(crate) enum Relation {
     Equal,
     Less,
 }
 
-pub enum ConditionKind {
+pub(crate) enum ConditionKind {
     Always,
     Never,
     Negation,

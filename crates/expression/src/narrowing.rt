@@ -25,7 +25,7 @@ ghost use Rattle.expression.specs.Narrowing.{narrowedAtOf, yesIn, noIn, 
 
 // Where read, what narrowing by the condition at a place leaves, and the place behind it; where not, no condition stands
 // there.
-pub struct NarrowedAt {
+pub(crate) struct NarrowedAt {
     pub read: bool,
     pub empty: bool,
     pub regs: [Span; 8],

@@ -44,7 +44,7 @@ pub fn int32_at(s: &[u8], p: usize) -> Val
 }
 
 // A byte as the number of a register.
-pub fn index(x: u8) -> usize
+pub(crate) fn index(x: u8) -> usize
     ensures { λ r. ⌜ r ≡ x ⌝ }
 {
     x as usize

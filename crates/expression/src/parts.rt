@@ -26,7 +26,7 @@ pub enum Check {
 
 // Where read, the check of a condition and the place behind it; where not, no condition stands there, and check and next
 // say nothing.
-pub struct Checked {
+pub(crate) struct Checked {
     pub read: bool,
     pub check: Check,
     pub next: usize,

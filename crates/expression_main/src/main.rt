@@ -127,7 +127,7 @@ fn print_parsed(text: &[u8], p: Parsed, length: usize) {
 fn place(text: &[u8], code: &[u8]) {
     print_parsed(
         text,
-        expression::read_arith(code, 0, code.len(), 2, 12),
+        expression::read_arith(code, 0, code.len(), 2, expression::DEEPEST),
         code.len(),
     );
 }
@@ -135,7 +135,7 @@ fn place(text: &[u8], code: &[u8]) {
 fn condition_place(text: &[u8], code: &[u8]) {
     print_parsed(
         text,
-        expression::read_condition(code, 0, code.len(), 2, 12),
+        expression::read_condition(code, 0, code.len(), 2, expression::DEEPEST),
         code.len(),
     );
 }

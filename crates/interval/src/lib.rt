@@ -148,7 +148,7 @@ fn hull(p: Wide, q: Wide, r: Wide, s: Wide) -> Reading
 
 // ---- operators on spans: the least and the greatest over their ends
 
-pub fn sum(a: Span, b: Span) -> Reading
+fn sum(a: Span, b: Span) -> Reading
     ensures { λ r. ⌜ resultOf r ≡ combine half32 plus (intervalOf a) (intervalOf b) ⌝ }
 {
     hull(
@@ -159,7 +159,7 @@ pub fn sum(a: Span, b: Span) -> Reading
     )
 }
 
-pub fn difference(a: Span, b: Span) -> Reading
+fn difference(a: Span, b: Span) -> Reading
     ensures { λ r. ⌜ resultOf r ≡ combine half32 minus (intervalOf a) (intervalOf b) ⌝ }
 {
     hull(
@@ -171,7 +171,7 @@ pub fn difference(a: Span, b: Span) -> Reading
 }
 
 // The four products are formed here and nowhere else.
-pub fn product(a: Span, b: Span) -> Reading
+fn product(a: Span, b: Span) -> Reading
     ensures { λ r. ⌜ resultOf r ≡ combine half32 times (intervalOf a) (intervalOf b) ⌝ }
 {
     hull(
@@ -193,7 +193,7 @@ fn holds_zero(b: Span) -> bool
     }
 }
 
-pub fn quotient(a: Span, b: Span) -> Reading
+fn quotient(a: Span, b: Span) -> Reading
     ensures { λ r. ⌜ resultOf r ≡ combine half32 divide (intervalOf a) (intervalOf b) ⌝ }
 {
     if holds_zero(b) {
@@ -207,7 +207,7 @@ pub fn quotient(a: Span, b: Span) -> Reading
     )
 }
 
-pub fn combine(o: Operator, a: Span, b: Span) -> Reading
+fn combine(o: Operator, a: Span, b: Span) -> Reading
     ensures { λ r. ⌜ resultOf r ≡ combine half32 (operatorOf o) (intervalOf a) (intervalOf b) ⌝ }
 {
     match o {

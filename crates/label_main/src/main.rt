@@ -1,28 +1,82 @@
-// Reads a sheet from standard input, lends 12,000 numbers, and prints refusal, place, steps, low and high.
+// Reads a sheet from standard input, lends 12,000 numbers, and prints refusal, place, steps, low and high. What it prints of the
+// bytes that were read is proved to be what the rules print of them.
 use label::Answer;
 use label::check;
+use writing::put;
+use writing::put_decimal;
+ghost use mathlib.Core.Path.{_≡_};
+ghost use mathlib.Core.List.{[], _∷_, _++_};
+ghost use Prim.Native.Nat.{_+_, _≤_};
+ghost use lib.ListN.{length};
+ghost use Rattle.rules.specs.Constants.{longestSheet};
+ghost use Rattle.rules.specs.Product as P;
+ghost use Rattle.rules.specs.Product.{decimal, line};
+ghost use Rattle.writing.specs.Out.{Writes};
+ghost use Rattle.label.specs.Shape.{answerOf};
+ghost use Rattle.label_main.specs.Line.{Holds};
 
 // One byte more than a sheet may have, so that a longer one is seen to be too long.
 const MOST_BYTES: usize = 16385;
 
 const LENT: usize = 12000;
 
-fn put(n: u64, end: u8) {
-    io::print_decimal(1, n);
-    io::write_all(1, &[end]);
+// The longest line: ten digits for each number of 32 bits, twenty for the place, and one byte behind each of the five.
+const LONGEST_LINE: usize = 65;
+
+// A text: the first so many of the bytes.
+struct Line {
+    bytes: [u8; LONGEST_LINE],
+    length: usize,
 }
 
-fn print(a: Answer) {
-    put(a.refusal as u64, b' ');
-    put(a.place as u64, b' ');
-    put(a.steps as u64, b' ');
-    put(a.low as u64, b' ');
-    put(a.high as u64, b'\n');
+// A number in decimal and the byte behind it.
+fn put_number(out: &mut [u8], from: usize, n: usize, behind: u8) -> usize
+    ensures { λ r. ⌜ Writes (decimal n ++ behind ∷ []) (now (out .entry)) from (now (out .exit)) r ⌝ }
+{
+    let at = put_decimal(out, from, n);
+    put(out, at, behind)
+}
+
+// The five numbers at the buffer's front: spaces between them, a newline at the end.
+fn put_line(out: &mut [u8], a: Answer) -> usize
+    ensures { λ r. ⌜ Writes (line (answerOf a)) (now (out .entry)) 0 (now (out .exit)) r ⌝ }
+{
+    let second = put_number(out, 0, a.refusal as usize, b' ');
+    let third = put_number(out, second, a.place, b' ');
+    let fourth = put_number(out, third, a.steps as usize, b' ');
+    let fifth = put_number(out, fourth, a.low as usize, b' ');
+    put_number(out, fifth, a.high as usize, b'\n')
+}
+
+fn line_of(a: Answer) -> Line
+    ensures { λ r. ⌜ Holds (line (answerOf a)) r ⌝ }
+{
+    let mut bytes = [0u8; LONGEST_LINE];
+    let length = put_line(&mut bytes, a);
+    Line { bytes, length }
+}
+
+// What is printed of a sheet.
+fn printed(sheet: &[u8]) -> Line
+    ensures { λ r. ⌜ Holds (P.printed (now (sheet .entry))) r ⌝ }
+{
+    let mut work = [0i32; LENT];
+    let a = check(sheet, &mut work);
+    line_of(a)
+}
+
+// Reads standard input as far as there is room, and gives how many bytes it read.
+fn read_sheet(sheet: &mut [u8; MOST_BYTES]) -> usize
+    ensures { λ r. ⌜ (length (now (sheet .exit)) ≡ longestSheet + 1) × (r ≤ longestSheet + 1) ⌝ }
+{
+    io::read_full(0, sheet)
 }
 
 fn main() {
     let mut sheet = [0u8; MOST_BYTES];
-    let n = io::read_full(0, &mut sheet);
-    let mut work = [0i32; LENT];
-    print(check(&sheet[..n], &mut work));
+    let n = read_sheet(&mut sheet);
+    let l = printed(&sheet[..n]);
+    let bytes = l.bytes;
+    let end = l.length;
+    io::write_all(1, &bytes[..end]);
 }

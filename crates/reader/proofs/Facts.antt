@@ -1,32 +1,28 @@
 -- What holds of a sheet that reads and of its index: `accepted`, `rejected`, `program-facts`, `index-facts`, the facts of a
--- thread and of a statement by number, and what `statement_at` gives at a place of the index. No code in it: later layers
+-- thread and of a statement by number, and what `statement_at` asks of a place of the index. No code in it: later layers
 -- cite these from the promise of `read_sheet`.
 use mathlib.Core.Path.{_≡_, refl, sym, ap, subst, _∙_}
 use mathlib.Core.Bool.{Bool, true, false, not, _&&_}
-use mathlib.Core.List.{List, [], _∷_, _++_, map}
+use mathlib.Core.List.{List, [], _∷_, _++_}
 use Prim.Native.Nat.{ℕ, zero, suc, _+_, _-_, _*_, _<_, _≤_}
-use native.Mathlib.Nat.{suc-mul, mul-le-mul-right}
 use native.Mathlib.Omega.{arith}
-use lib.Dec.{T, leb, ltb, eqb, leb→le, lit<, lit≤}
-use lib.ListN.{length, getD, set, length-set, replicate, length-replicate, length-append, List·getD-map}
-use lib.Seq.{sets, length-sets, getD-set-same, getD-set-other}
+use lib.Dec.{T, leb, ltb, eqb, leb→le}
+use lib.ListN.{length, getD, length-append}
 use borrow.Author.Tests.{leb-true, eqb-true, ltb-true, ltb-false}
 use Rattle.rules.specs.Base.{if_then_else_, Each, nil, _&_}
-use Rattle.rules.specs.Constants.{longestSheet, greatestLimit, greatestBudget, mostLocks, mostVariables, mostThreads, mostStatements}
+use Rattle.rules.specs.Constants.{longestSheet, greatestLimit, greatestBudget, mostLocks, mostThreads, mostStatements}
 use Rattle.rules.specs.Refusal as R
 use Rattle.rules.specs.Refusal.{number, short, outOfTurn, tooLong}
-use Rattle.rules.specs.Interval.{Interval}
-use Rattle.rules.specs.Program.{isHalt, Statement, Thread, Header, Program, noStatement, noThread}
-use Rattle.rules.specs.Format.{Bytes, byte, num32, Got, bad, got, need, andThen, Here, wrong, more, done, hasHead, headerFits, readHeader, readLocks, variableHere, readVariables, readThread, threadHere, readThreads, readMany, readSheet}
+use Rattle.rules.specs.Program.{isHalt, Thread, Header, Program, noStatement, noThread}
+use Rattle.rules.specs.Format.{Bytes, byte, num32, Got, bad, got, wrong, more, done, hasHead, headerFits, readHeader, readLocks, variableHere, readVariables, readThread, threadHere, readThreads, readSheet}
+use Rattle.rules.proofs.Refusal.{positive}
 use Rattle.rules.proofs.Base.{and-left, and-right, each-map}
 use Rattle.rules.proofs.Format.{If, many-if, variables-ordered}
-use Rattle.reader.specs.declared.threads.ThreadEntry.{ThreadEntry}
 use Rattle.reader.specs.declared.Index.{Index}
-use Rattle.reader.specs.Index.{placesOf, layPlaces, noPlaces, noEntry, entryOf, entriesOf, refusedIndex, indexOf}
-use Rattle.reader.specs.Decoded.{statementAt, statementOf}
+use Rattle.reader.specs.Index.{layPlaces, noPlaces, refusedIndex, indexOf}
 use Rattle.reader.specs.Facts.{threadIn, statementIn, namesIn, ranges, Ordered, Targets, StatementFacts, ThreadFacts, HeaderFacts, ProgramFacts, IndexFacts}
-use Rattle.reader.proofs.IfAt.{IfAt, need-at, then-at, sized-at, due-at, any-at, plain, both-at, weaker-at, with-reading, when-got, many-at, many-few}
-use Rattle.reader.proofs.Loops.{map-length}
+use Rattle.reader.proofs.IfAt.{IfAt, need-at, then-at, sized-at, due-at, any-at, both-at, with-reading, when-got, many-at, many-few}
+use Rattle.reader.proofs.TableFacts.{lay-at, entry-at}
 use Rattle.reader.proofs.ThreadFacts.{variables-row, variables-few, thread-facts}
 
 -- ---- the header and the locks
@@ -164,66 +160,6 @@ module _ {s : Bytes} {g : Program} (f : ProgramFacts s g) (t : ℕ) (r : t < len
           subst (λ (j : ℕ). isHalt (getD (threadIn g t .statements) j noStatement .action) ≡ true) last (thread-in .last-halts) in
           let z : _≡_ {A = ℕ} 0 1 = cc in absurd (omega arith)
 
--- ---- a table, element by element
-
-module _ {B : Type 0} (d : B) where
-  sets-below : (l : List B) (i : ℕ) (vs : List B) (j : ℕ) → j < i → getD (sets l i vs) j d ≡ getD l j d
-  sets-below l i [] j h = refl
-  sets-below l i (v ∷ vs) j h = sets-below (set l i v) (suc i) vs j (omega arith) ∙ getD-set-other l i j v d (λ e. absurd (omega arith))
-
-  sets-in : (l : List B) (i : ℕ) (vs : List B) (k : ℕ) → k < length vs → i + length vs ≤ length l → getD (sets l i vs) (i + k) d ≡ getD vs k d
-  sets-in l i [] k h r = absurd (omega arith)
-  sets-in l i (v ∷ vs) zero h r =
-      let e : i + 0 ≡ i = omega arith in
-      ap (λ (j : ℕ). getD (sets (set l i v) (suc i) vs) j d) e ∙ sets-below (set l i v) (suc i) vs i (omega arith) ∙ getD-set-same l i v d (omega arith)
-  sets-in l i (v ∷ vs) (suc k) h r =
-      let e : i + suc k ≡ suc i + k = omega arith in
-      ap (λ (j : ℕ). getD (sets (set l i v) (suc i) vs) j d) e ∙ sets-in (set l i v) (suc i) vs k (omega arith) (omega (arith, length-set l i v))
-
-row-end : (t n w : ℕ) → suc t * w ≤ (t + suc n) * w
-row-end t n w = let h : suc t ≤ t + suc n = omega arith in mul-le-mul-right w h
-
-lay-below : (t : ℕ) (ts : List Thread) (l : List ℕ) (j : ℕ) → j < t * mostStatements → getD (layPlaces t ts l) j 0 ≡ getD l j 0
-unfolding layPlaces
-lay-below t [] l j h = refl
-lay-below t (x ∷ xs) l j h =
-    lay-below (suc t) xs (sets l (t * mostStatements) (placesOf (x .statements))) j (omega (arith, suc-mul t mostStatements))
-    ∙ sets-below 0 l (t * mostStatements) (placesOf (x .statements)) j h
-
-abbrev place : Statement → ℕ
-place x = x .place
-
-lay-at : (t : ℕ) (ts : List Thread) (l : List ℕ) (u k : ℕ) → Each (λ x. length (x .statements) ≤ mostStatements) ts → u < length ts
-    → k < length (getD ts u noThread .statements) → (t + length ts) * mostStatements ≤ length l
-    → getD (layPlaces t ts l) ((t + u) * mostStatements + k) 0 ≡ getD (getD ts u noThread .statements) k noStatement .place
-unfolding layPlaces
-lay-at t [] l u k a h i r = absurd (omega arith)
-lay-at t (x ∷ xs) l zero k (a & b) h i r =
-    let e : t + 0 ≡ t = omega arith in
-    let m = suc-mul t mostStatements in
-    let z = row-end t (length xs) mostStatements in
-    let c = map-length place (x .statements) in
-    let w = sets l (t * mostStatements) (placesOf (x .statements)) in
-    ap (λ (j : ℕ). getD (layPlaces (suc t) xs w) (j * mostStatements + k) 0) e
-    ∙ lay-below (suc t) xs w (t * mostStatements + k) (omega arith)
-    ∙ sets-in 0 l (t * mostStatements) (placesOf (x .statements)) k (omega arith) (omega arith)
-    ∙ List·getD-map place (x .statements) k noStatement
-lay-at t (x ∷ xs) l (suc u) k (a & b) h i r =
-    let e : t + suc u ≡ suc t + u = omega arith in
-    let n : t + suc (length xs) ≡ suc t + length xs = omega arith in
-    let w = sets l (t * mostStatements) (placesOf (x .statements)) in
-    ap (λ (j : ℕ). getD (layPlaces (suc t) xs w) (j * mostStatements + k) 0) e
-    ∙ lay-at (suc t) xs w u k b (omega arith) i
-    (subst (λ (j : ℕ). j * mostStatements ≤ length w) n (subst (λ (j : ℕ). (t + suc (length xs)) * mostStatements ≤ j) (sym (length-sets l (t * mostStatements) (placesOf (x .statements)))) r))
-
-entry-at : (ts : List Thread) (t : ℕ) → length ts ≤ mostThreads → t < length ts → getD (entriesOf ts) t noEntry ≡ entryOf (getD ts t noThread)
-entry-at ts t few r =
-    let e : t ≡ 0 + t = omega arith in
-    let n = map-length entryOf ts in
-    ap (λ (j : ℕ). getD (entriesOf ts) j noEntry) e
-    ∙ sets-in noEntry (replicate mostThreads noEntry) 0 (map entryOf ts) t (omega arith) (omega arith)
-    ∙ List·getD-map entryOf ts t noThread
-
 -- ---- the index
 
 facts-of-got : (s : Bytes) (g : Program) (e : ℕ) → ProgramFacts s g → IndexFacts s g (indexOf (got g e))
@@ -249,36 +185,16 @@ facts-of-got s g e f =
 pub index-facts : {s : Bytes} {i : Index} (g : Program) (e : ℕ) → i ≡ indexOf (readSheet s) → readSheet s ≡ got g e → IndexFacts s g i
 index-facts {s} g e h q = subst (IndexFacts s g) (sym (h ∙ ap indexOf q)) (facts-of-got s g e (program-facts s g e q))
 
--- statement k of thread t, by the place that the index has for it: what `statement_at` asks, and what it then gives
+-- statement k of thread t, by the place that the index has for it: what `statement_at` asks
 module _ {s : Bytes} {g : Program} {i : Index} (f : ProgramFacts s g) (x : IndexFacts s g i)
     (t k : ℕ) (r : t < length (g .threads)) (b : k < length (threadIn g t .statements)) where
   pub place-head : getD (i .places) (t * mostStatements + k) 0 + 8 ≤ length s
   place-head = subst (λ (p : ℕ). p + 8 ≤ length s) (sym (x .places t k r b)) (statement-in f t r k b .head)
 
-  pub place-decoded : statementAt s (getD (i .places) (t * mostStatements + k) 0) ≡ statementOf s (statementIn g t k)
-  place-decoded = ap (statementAt s) (x .places t k r b) ∙ statement-in f t r k b .decoded
-
-numbered : (r : R.Refusal) → number r ≡ 0 → ⊥
-numbered R.short e = omega arith
-numbered R.outOfTurn e = omega arith
-numbered R.badLength e = omega arith
-numbered R.offRange e = omega arith
-numbered R.noSuchName e = omega arith
-numbered R.badExpression e = omega arith
-numbered R.noHalt e = omega arith
-numbered R.tooMany e = omega arith
-numbered R.tooLong e = omega arith
-numbered R.noReading e = omega arith
-numbered R.stuck e = omega arith
-numbered R.pastLimit e = omega arith
-numbered R.outOfSteps e = omega arith
-numbered R.outOfRoom e = omega arith
-numbered R.labelBroken e = omega arith
-
 -- refusal 0: the sheet reads as a program
 pub accepted : {i : Index} (G : Got Program) → i ≡ indexOf G → i .refusal ≡ 0 → (g : Program) × (e : ℕ) × (G ≡ got g e)
 unfolding indexOf refusedIndex
-accepted (bad r p) h z = absurd (numbered r (ap (λ (x : Index). x .refusal) (sym h) ∙ z))
+accepted (bad r p) h z = absurd (positive r (ap (λ (x : Index). x .refusal) (sym h) ∙ z))
 accepted (got g e) h z = (g, e, refl)
 
 -- another: the rules' refusal has that number and that place

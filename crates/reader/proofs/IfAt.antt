@@ -8,7 +8,7 @@ use lib.Dec.{T, eqb, eqb→eq}
 use lib.ListN.{length, length-append}
 use Rattle.rules.specs.Refusal as R
 use Rattle.rules.specs.Refusal.{short, outOfTurn, badLength, offRange, badExpression, tooMany}
-use Rattle.rules.specs.Format.{Bytes, num16, Got, bad, got, need, andThen, mapGot, exactly, Here, wrong, more, done, onHere, readMany, hasBody, sized, due}
+use Rattle.rules.specs.Format.{Bytes, Got, bad, got, need, andThen, mapGot, exactly, Here, wrong, more, done, onHere, readMany, hasBody, sized, due}
 use Rattle.rules.proofs.Format.{If}
 
 abbrev pub IfAt : {A : Type 0} → (A → ℕ → Type 0) → Got A → Type 0

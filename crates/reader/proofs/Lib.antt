@@ -4,4 +4,5 @@ pub mod Sheet
 pub mod IfAt
 pub mod StatementFacts
 pub mod ThreadFacts
+pub mod TableFacts
 pub mod Facts

@@ -1,23 +1,22 @@
 -- What holds of a statement that was read: it is what the bytes at its place say, its names are there, its expression ends
 -- where its field ends, and its times are in order.
 use mathlib.Core.Path.{_≡_, refl, sym, ap, subst, _∙_}
-use mathlib.Core.Bool.{Bool, true, false, not, _&&_}
-use mathlib.Core.List.{List, []}
+use mathlib.Core.Bool.{Bool, not, _&&_}
+use mathlib.Core.List.{[]}
 use Prim.Native.Nat.{ℕ, zero, suc, _+_, _<_, _≤_}
 use native.Mathlib.Omega.{arith}
-use lib.Dec.{T, leb, ltb, eqb, leb→le, ltb→lt}
+use lib.Dec.{T, leb, ltb, leb→le, ltb→lt}
 use lib.ListN.{length}
-use Rattle.rules.specs.Base.{if_then_else_, Each, nil}
+use Rattle.rules.specs.Base.{Each, nil}
 use Rattle.rules.specs.Constants.{deepest, mostStatements}
 use Rattle.rules.specs.Refusal.{short, badLength, offRange, noSuchName}
-use Rattle.rules.specs.Program.{Arith, Condition, Action, isHalt, Statement}
-use Rattle.rules.specs.Format.{Bytes, byte, num16, Got, bad, got, need, mapGot, exactly, Names, readArith, readCondition, readAction, hasBody, readContents, readStatement, statementHere, readStatements}
+use Rattle.rules.specs.Program.{Arith, Condition, Action, Statement}
+use Rattle.rules.specs.Format.{Bytes, byte, num16, Got, got, Names, readArith, readCondition, readAction, hasBody, readContents, readStatement, statementHere, readStatements}
 use Rattle.rules.proofs.Base.{and-left, and-right}
 use Rattle.rules.proofs.Format.{If, need-if, many-if, Timed, contents-timed}
-use Rattle.reader.specs.declared.decoding.Action as code
 use Rattle.reader.specs.Decoded.{bodyEnd, decodeAction, statementAt, statementOf, actionOf}
 use Rattle.reader.specs.Facts.{Named, Expresses, StatementFacts}
-use Rattle.reader.proofs.IfAt.{IfAt, need-at, map-at, exactly-at, any-at, plain, both-at, with-reading, when-got}
+use Rattle.reader.proofs.IfAt.{IfAt, need-at, map-at, exactly-at, any-at, plain, with-reading, when-got}
 
 -- ---- the action of a code, whose operands stand from p up to e
 
@@ -91,7 +90,7 @@ read-at ns s at =
       refl,
       record {
         ends = w .ends;
-        decoded = λ i. record { least = num16 s (at + 3); greatest = num16 s (at + 5); action = view i };
+        decoded = λ i. record { least = record { 0 = num16 s (at + 3) }; greatest = record { 0 = num16 s (at + 5) }; action = view i };
         head = omega arith;
         body = inside;
         named = w .named;

@@ -4,7 +4,7 @@ use mathlib.Core.Bool.{Bool, true, false, not}
 use mathlib.Core.List.{List, [], _∷_, _++_}
 use Prim.Native.Nat.{ℕ, zero, suc, _+_, _-_, _*_, _<_, _≤_}
 use native.Mathlib.Omega.{arith}
-use lib.Dec.{T, leb, ltb, eqb}
+use lib.Dec.{leb, eqb}
 use lib.ListN.{length, getD, length-append}
 use borrow.Author.Tests.{ltb-true}
 use Rattle.rules.specs.Base.{if_then_else_, Each, nil, _&_}
@@ -13,13 +13,12 @@ use Rattle.rules.specs.Refusal as R
 use Rattle.rules.specs.Refusal.{short, outOfTurn, noSuchName, noHalt}
 use Rattle.rules.specs.Interval.{Interval}
 use Rattle.rules.specs.Program.{Action, halt, skip, assign, branch, store, load, unlock, lock, isHalt, Statement, Thread, noStatement}
-use Rattle.rules.specs.Format.{Bytes, byte, int32, Got, bad, got, need, andThen, Names, hasHead, sized, due, readRange, Here, wrong, more, done, variableHere, readVariables, readRegisters, statementHere, readStatement, readStatements, targetFits, lastHalts, targetsFit, close, readThread}
-use Rattle.rules.proofs.Base.{each-map}
-use Rattle.rules.proofs.Format.{If, close-if, variables-ordered, registers-ordered}
-use Rattle.reader.specs.Facts.{rangeAt, ranges, Ordered, Targets, namesIn, StatementFacts, ThreadFacts}
-use Rattle.reader.proofs.IfAt.{IfAt, need-at, then-at, sized-at, due-at, any-at, plain, both-at, weaker-at, with-reading, when-got, many-at, many-few}
+use Rattle.rules.specs.Format.{Bytes, byte, Got, bad, got, need, Names, hasHead, sized, readRange, wrong, more, done, variableHere, readVariables, readRegisters, statementHere, readStatement, readStatements, targetFits, lastHalts, targetsFit, close, readThread}
+use Rattle.rules.proofs.Format.{If, close-if, registers-ordered}
+use Rattle.reader.specs.Facts.{rangeAt, ranges, Ordered, Targets, StatementFacts, ThreadFacts}
+use Rattle.reader.proofs.IfAt.{IfAt, then-at, sized-at, due-at, any-at, plain, both-at, weaker-at, with-reading, when-got, many-at, many-few}
 use Rattle.reader.proofs.statements.Codes.{need-gives, last-gives, targets-give}
-use Rattle.reader.proofs.threads.Laws.{Opened, opened}
+use Rattle.reader.proofs.threads.Laws.{opened}
 use Rattle.reader.proofs.StatementFacts.{statements-facts}
 
 -- ---- ranges

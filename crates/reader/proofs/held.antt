@@ -1,3 +1,3 @@
 -- What the proofs of several functions of `held` cite.
-pub mod Laws
 pub mod Owned
+pub mod Result

@@ -1,5 +1,4 @@
 -- What the proofs of several functions of `statements` cite.
 pub mod Laws
 pub mod Codes
-pub mod Closing
 pub mod Places

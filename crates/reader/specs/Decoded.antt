@@ -4,6 +4,7 @@ use lib.Dec.{eqb}
 use Rattle.rules.specs.Base.{if_then_else_}
 use Rattle.rules.specs.Program as R
 use Rattle.rules.specs.Format.{Bytes, byte, num16}
+use Rattle.reader.specs.Ticks.{tick}
 use Rattle.reader.specs.declared.decoding.Action.{Action}
 use Rattle.reader.specs.declared.decoding.Action.the-variants.{Halt, Skip, Assign, Branch, Store, Load, Unlock, Lock}
 use Rattle.reader.specs.declared.decoding.Statement.{Statement}
@@ -30,7 +31,7 @@ abbrev pub actionAt : Bytes → ℕ → Action
 actionAt s p = decodeAction (byte s (p + 7)) (byte s (p + 8)) (byte s (p + 9)) (p + 9) (bodyEnd s p)
 
 abbrev pub statementAt : Bytes → ℕ → Statement
-statementAt s p = record { least = num16 s (p + 3); greatest = num16 s (p + 5); action = actionAt s p }
+statementAt s p = record { least = tick (num16 s (p + 3)); greatest = tick (num16 s (p + 5)); action = actionAt s p }
 
 -- ---- from the program: of an expression, from where to where it stands
 
@@ -45,4 +46,4 @@ actionOf at end (R.unlock l) = Unlock l
 actionOf at end (R.lock l) = Lock l
 
 abbrev pub statementOf : Bytes → R.Statement → Statement
-statementOf s x = record { least = x .least; greatest = x .greatest; action = actionOf (x .place + 9) (bodyEnd s (x .place)) (x .action) }
+statementOf s x = record { least = tick (x .least); greatest = tick (x .greatest); action = actionOf (x .place + 9) (bodyEnd s (x .place)) (x .action) }

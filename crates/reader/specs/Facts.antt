@@ -9,7 +9,7 @@ use Rattle.rules.specs.Base.{Each}
 use Rattle.rules.specs.Constants.{longestSheet, deepest, greatestLimit, greatestBudget, mostLocks, mostVariables, mostRegisters, mostThreads, mostStatements}
 use Rattle.rules.specs.Interval.{Interval, interval}
 use Rattle.rules.specs.Program.{Action, halt, skip, assign, branch, store, load, unlock, lock, isHalt, Statement, Thread, Header, Program, noStatement, noThread}
-use Rattle.rules.specs.Format.{Bytes, num16, int32, Got, got, Names, readArith, readCondition, readStatement}
+use Rattle.rules.specs.Format.{Bytes, int32, got, Names, readArith, readCondition, readStatement}
 use Rattle.reader.specs.declared.Index.{Index}
 use Rattle.reader.specs.Index.{noEntry, entryOf}
 use Rattle.reader.specs.Decoded.{bodyEnd, statementAt, statementOf}
@@ -122,10 +122,10 @@ pub record ProgramFacts (s : Bytes) (g : Program) : Type 0 where
 
 pub record IndexFacts (s : Bytes) (g : Program) (i : Index) : Type 0 where
   pub refusal : i .refusal ≡ 0
-  pub limit : i .limit ≡ g .header .limit
+  pub limit : i .limit .0 ≡ g .header .limit
   pub budget : i .budget ≡ g .header .budget
-  pub label-low : i .«label_low» ≡ g .header .labelLow
-  pub label-high : i .«label_high» ≡ g .header .labelHigh
+  pub label-low : i .«label_low» .0 ≡ g .header .labelLow
+  pub label-high : i .«label_high» .0 ≡ g .header .labelHigh
   pub locks : i .locks ≡ g .locks
   pub variables : i .variables ≡ length (g .vars)
   pub threads : i .threads ≡ length (g .threads)

@@ -1,8 +1,8 @@
 -- The index of a sheet: what the code gives of a program, and the tables it is made from.
 use mathlib.Core.Path.{_≡_}
-use mathlib.Core.Bool.{Bool, true, false}
+use mathlib.Core.Bool.{Bool, true}
 use mathlib.Core.List.{List, [], _∷_, map}
-use Prim.Native.Nat.{ℕ, zero, suc, _+_, _*_, _≤_}
+use Prim.Native.Nat.{ℕ, suc, _+_, _*_, _≤_}
 use lib.Dec.{eqb, ltb}
 use lib.ListN.{length, replicate}
 use lib.Seq.{sets}
@@ -10,11 +10,13 @@ use Rattle.rules.specs.Base.{if_then_else_}
 use Rattle.rules.specs.Constants.{mostThreads, mostStatements}
 use Rattle.rules.specs.Refusal.{Refusal, number}
 use Rattle.rules.specs.Program.{Statement, Thread, Program}
-use Rattle.rules.specs.Format.{Bytes, byte, num32, Got, bad, got}
+use Rattle.rules.specs.Format.{Bytes, byte, Got, bad, got}
 use Rattle.refusal.specs.declared.Refusal.the-variants.{NoSuchName, NoHalt}
 use Rattle.refusal.specs.Shape.{refusalOf}
+use Rattle.reader.specs.Ticks.{tick}
 use Rattle.reader.specs.declared.outcome.End.{End}
-use Rattle.reader.specs.declared.outcome.End.the-variants.{At, Refused}
+use Rattle.reader.specs.declared.outcome.End.the-variants.{Refused}
+use Rattle.reader.specs.declared.fields.Header.{Header}
 use Rattle.reader.specs.declared.threads.ThreadEntry.{ThreadEntry}
 use Rattle.reader.specs.declared.threads.Threads.{Threads}
 use Rattle.reader.specs.declared.Index.{Index}
@@ -53,7 +55,7 @@ ThreadRead (got t q) base l m x =
 
 -- ---- all threads
 
--- the places of thread t's statements stand from t * 64 on
+-- the places of thread t's statements stand from t * mostStatements on
 unfoldable pub layPlaces : ℕ → List Thread → List ℕ → List ℕ
 layPlaces t [] l = l
 layPlaces t (x ∷ xs) l = layPlaces (suc t) xs (sets l (t * mostStatements) (placesOf (x .statements)))
@@ -86,10 +88,10 @@ unfoldable pub refusedIndex : Refusal → ℕ → Index
 refusedIndex r p = record {
   refusal = number r;
   place = p;
-  limit = 0;
+  limit = tick 0;
   budget = 0;
-  «label_low» = 0;
-  «label_high» = 0;
+  «label_low» = tick 0;
+  «label_high» = tick 0;
   locks = 0;
   variables = 0;
   threads = 0;
@@ -103,10 +105,10 @@ indexOf (bad r p) = refusedIndex r p
 indexOf (got g e) = record {
   refusal = 0;
   place = 0;
-  limit = g .header .limit;
+  limit = tick (g .header .limit);
   budget = g .header .budget;
-  «label_low» = g .header .labelLow;
-  «label_high» = g .header .labelHigh;
+  «label_low» = tick (g .header .labelLow);
+  «label_high» = tick (g .header .labelHigh);
   locks = g .locks;
   variables = length (g .vars);
   threads = length (g .threads);
@@ -114,16 +116,16 @@ indexOf (got g e) = record {
   places = layPlaces 0 (g .threads) noPlaces;
 }
 
--- the same from the bytes of the header and the threads alone
-unfoldable pub indexWith : Bytes → ℕ → ℕ → Got (List Thread) → Index
-indexWith s locks vars (bad r p) = refusedIndex r p
-indexWith s locks vars (got ts e) = record {
+-- the same from what the code read before the threads
+unfoldable pub indexWith : Header → ℕ → ℕ → Got (List Thread) → Index
+indexWith h locks vars (bad r p) = refusedIndex r p
+indexWith h locks vars (got ts e) = record {
   refusal = 0;
   place = 0;
-  limit = num32 s 3;
-  budget = num32 s 7;
-  «label_low» = num32 s 11;
-  «label_high» = num32 s 15;
+  limit = h .limit;
+  budget = h .budget;
+  «label_low» = h .«label_low»;
+  «label_high» = h .«label_high»;
   locks = locks;
   variables = vars;
   threads = length ts;

@@ -10,7 +10,7 @@ use Rattle.refusal.specs.declared.Refusal.the-variants.{BadExpression}
 use Rattle.refusal.specs.Shape.{refusalOf}
 use Rattle.expression.specs.declared.reading.Parsed.{Parsed}
 use Rattle.expression.specs.declared.reading.Parsed.the-variants as parsed
-use Rattle.reader.specs.declared.statements.Names.{Names}
+use Rattle.reader.specs.declared.operands.Names.{Names}
 use Rattle.reader.specs.declared.outcome.End.{End}
 use Rattle.reader.specs.declared.outcome.End.the-variants.{At, Refused}
 use Rattle.reader.specs.declared.outcome.Next.{Next}

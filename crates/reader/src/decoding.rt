@@ -1,7 +1,8 @@
 // A statement of a sheet that was read, decoded where it stands: how later code goes by the places of an index.
 use crate::fields::byte_at;
 use crate::fields::length_at;
-use expression::num16_at;
+use crate::ticks::Time;
+use crate::ticks::time16_at;
 ghost use mathlib.Core.Path.{_≡_};
 ghost use Prim.Native.Nat.{_+_, _≤_, _<_};
 ghost use lib.ListN.{length};
@@ -35,8 +36,8 @@ pub enum Action {
 }
 
 pub struct Statement {
-    pub least: u32,
-    pub greatest: u32,
+    pub least: Time,
+    pub greatest: Time,
     pub action: Action,
 }
 
@@ -86,10 +87,10 @@ fn action_at(s: &[u8], at: usize) -> Action
 // The statement whose field stands at a place. What this is of the program that the sheet reads as: proofs/Facts, `decoded`.
 pub fn statement_at(s: &[u8], at: usize) -> Statement
     requires { ⌜ at + 8 ≤ length (now s) ⌝ }
-    ensures { λ r. ⌜ (r ≡ statementAt (now (s .entry)) at) × (r .least < 65536) × (r .greatest < 65536) ⌝ }
+    ensures { λ r. ⌜ (r ≡ statementAt (now (s .entry)) at) × (r .least .0 < 65536) × (r .greatest .0 < 65536) ⌝ }
 {
-    let least = num16_at(s, at + 3);
-    let greatest = num16_at(s, at + 5);
+    let least = time16_at(s, at + 3);
+    let greatest = time16_at(s, at + 5);
     let action = action_at(s, at);
     Statement {
         least,

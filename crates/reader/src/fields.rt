@@ -1,7 +1,10 @@
 // Fields: a byte, a header, a length, and the fields of fixed length.
 // Every function is given the whole sheet s and the place of a field in it.
-use crate::held::field_at;
+use crate::heads::field_at;
+use crate::heads::has_head;
 use crate::outcome::End;
+use crate::ticks::Time;
+use crate::ticks::time32_at;
 use expression::num32_at;
 use refusal::Refusal;
 ghost use mathlib.Core.Path.{_≡_};
@@ -10,13 +13,14 @@ ghost use Prim.Native.Nat.{_+_, _≤_, _<_};
 ghost use lib.Dec.{leb};
 ghost use lib.ListN.{length};
 ghost use Rattle.rules.specs.Constants.{mostRegisters};
-ghost use Rattle.rules.specs.Format.{got, byte, num16, hasHead, hasBody, due, sized, headerFits, readHeader, readLocks};
+ghost use Rattle.rules.specs.Format.{got, byte, num16, hasBody, due, sized, headerFits, readLocks};
 ghost use Rattle.reader.specs.Outcome.{endOf};
+ghost use Rattle.reader.specs.Walk.{headerOf, headerIn, headerAt};
 
 // Locks, and a thread's registers: at most 8.
 const MOST_NAMES: usize = 8;
 
-const GREATEST_LIMIT: u32 = 1000000;
+const GREATEST_LIMIT: Time = Time(1000000);
 
 const GREATEST_BUDGET: u32 = 10000000;
 
@@ -27,7 +31,7 @@ fn wide(x: u8) -> usize
 }
 
 // The byte at p, or 0 past the sheet's end.
-pub fn byte_at(s: &[u8], p: usize) -> usize
+pub(crate) fn byte_at(s: &[u8], p: usize) -> usize
     ensures { λ r. ⌜ (r ≡ byte (now (s .entry)) p) × (r < 256) ⌝ }
 {
     if p < s.len() {
@@ -36,14 +40,7 @@ pub fn byte_at(s: &[u8], p: usize) -> usize
     0
 }
 
-// ---- the header and the length of a field
-
-pub fn has_head(s: &[u8], at: usize) -> bool
-    ensures { λ r. ⌜ r ≡ hasHead (now (s .entry)) at ⌝ }
-{
-    let f = field_at(s, at);
-    f.whole
-}
+// ---- the length of a field, and its tag
 
 pub(crate) fn length_at(s: &[u8], at: usize) -> usize
     requires { ⌜ at + 3 ≤ length (now s) ⌝ }
@@ -62,7 +59,7 @@ pub(crate) fn has_body(s: &[u8], at: usize) -> bool
 }
 
 // The field at a place has the tag that is due.
-pub fn due_at(s: &[u8], at: usize, tag: u8) -> End
+pub(crate) fn due_at(s: &[u8], at: usize, tag: u8) -> End
     ensures { λ r. ⌜ r ≡ endOf (due tag (now (s .entry)) at (got at at)) ⌝ }
 {
     let f = field_at(s, at);
@@ -93,13 +90,38 @@ pub(crate) fn fixed_end(s: &[u8], at: usize, n: usize) -> End
 
 // ---- tag 1
 
-fn header_fits(limit: u32, budget: u32, low: u32, high: u32) -> bool
-    ensures { λ r. ⌜ r ≡ headerFits limit budget low high ⌝ }
+// The header's numbers.
+pub(crate) struct Header {
+    pub limit: Time,
+    pub budget: u32,
+    pub label_low: Time,
+    pub label_high: Time,
+}
+
+// Those in the body of the field at a place.
+pub(crate) fn header_at(s: &[u8], at: usize) -> Header
+    requires { ⌜ at + 19 ≤ length (now s) ⌝ }
+    ensures { λ r. ⌜ r ≡ headerOf (headerIn (now (s .entry)) at) ⌝ }
 {
-    if limit < 1 {
+    let limit = time32_at(s, at + 3);
+    let budget = num32_at(s, at + 7);
+    let label_low = time32_at(s, at + 11);
+    let label_high = time32_at(s, at + 15);
+    Header {
+        limit,
+        budget,
+        label_low,
+        label_high,
+    }
+}
+
+fn header_fits(limit: Time, budget: u32, low: Time, high: Time) -> bool
+    ensures { λ r. ⌜ r ≡ headerFits (limit .0) budget (low .0) (high .0) ⌝ }
+{
+    if limit.0 < 1 {
         return false;
     }
-    if GREATEST_LIMIT < limit {
+    if GREATEST_LIMIT.0 < limit.0 {
         return false;
     }
     if budget < 1 {
@@ -108,31 +130,28 @@ fn header_fits(limit: u32, budget: u32, low: u32, high: u32) -> bool
     if GREATEST_BUDGET < budget {
         return false;
     }
-    if high < low {
+    if high.0 < low.0 {
         return false;
     }
-    high <= limit
+    high.0 <= limit.0
 }
 
-pub fn header_end(s: &[u8]) -> End
-    ensures { λ r. ⌜ r ≡ endOf (readHeader (now (s .entry))) ⌝ }
+pub(crate) fn header_end(s: &[u8], at: usize) -> End
+    ensures { λ r. ⌜ r ≡ endOf (headerAt (now (s .entry)) at) ⌝ }
 {
-    let d = due_at(s, 0, 1);
+    let d = due_at(s, at, 1);
     let End::At(_) = d else {
         return d;
     };
-    let x = fixed_end(s, 0, 16);
+    let x = fixed_end(s, at, 16);
     let End::At(q) = x else {
         return x;
     };
-    let limit = num32_at(s, 3);
-    let budget = num32_at(s, 7);
-    let low = num32_at(s, 11);
-    let high = num32_at(s, 15);
-    if header_fits(limit, budget, low, high) {
+    let h = header_at(s, at);
+    if header_fits(h.limit, h.budget, h.label_low, h.label_high) {
         return End::At(q);
     }
-    End::Refused(Refusal::OffRange, 0)
+    End::Refused(Refusal::OffRange, at)
 }
 
 // ---- tags 3 and 4: one byte, a number of names
@@ -152,7 +171,7 @@ fn names_end(s: &[u8], at: usize) -> End
     End::Refused(Refusal::OffRange, at)
 }
 
-pub fn locks_end(s: &[u8], at: usize) -> End
+pub(crate) fn locks_end(s: &[u8], at: usize) -> End
     ensures { λ r. ⌜ r ≡ endOf (readLocks (now (s .entry)) at) ⌝ }
 {
     let d = due_at(s, at, 3);
@@ -163,7 +182,7 @@ pub fn locks_end(s: &[u8], at: usize) -> End
 }
 
 // The field that opens a thread, whose tag is known.
-pub fn open_end(s: &[u8], at: usize) -> End
+pub(crate) fn open_end(s: &[u8], at: usize) -> End
     ensures { λ r. ⌜ r ≡ endOf (sized (now (s .entry)) at 1 (leb (byte (now (s .entry)) (at + 3)) mostRegisters) (byte (now (s .entry)) (at + 3))) ⌝ }
 {
     if has_head(s, at) {

@@ -1,7 +1,7 @@
 // Ranges: the starting values of variables (tag 2) and registers (tag 5).
 use crate::fields::due_at;
 use crate::fields::fixed_end;
-use crate::held::field_at;
+use crate::heads::field_at;
 use crate::outcome::Count;
 use crate::outcome::End;
 use crate::outcome::Next;
@@ -32,7 +32,7 @@ fn range_end(s: &[u8], at: usize) -> End
     End::Refused(Refusal::OffRange, at)
 }
 
-pub fn register_end(s: &[u8], at: usize) -> End
+fn register_end(s: &[u8], at: usize) -> End
     ensures { λ r. ⌜ r ≡ endOf (due 5 (now (s .entry)) at (readRange (now (s .entry)) at)) ⌝ }
 {
     let d = due_at(s, at, 5);
@@ -59,7 +59,7 @@ fn variable_here(s: &[u8], at: usize) -> Next
     Next::Wrong(Refusal::Short)
 }
 
-pub fn read_variables(s: &[u8], at: usize) -> Count
+pub(crate) fn read_variables(s: &[u8], at: usize) -> Count
     ensures { λ r. ⌜ r ≡ countOf (readVariables (now (s .entry)) at) ⌝ }
 {
     let mut n: usize = 0;
@@ -93,7 +93,7 @@ pub fn read_variables(s: &[u8], at: usize) -> Count
 }
 
 // The ranges of n registers.
-pub fn registers_end(s: &[u8], n: usize, at: usize) -> End
+pub(crate) fn registers_end(s: &[u8], n: usize, at: usize) -> End
     ensures { λ r. ⌜ r ≡ endOf (readRegisters n [] (now (s .entry)) at) ⌝ }
 {
     let mut k: usize = 0;

@@ -1,123 +1,26 @@
-// Statements: the operands of a code, a statement's field, what may stand behind one, and the closing of a thread.
-// Every function is given the whole sheet s; `at` is the place of a statement's field, e the end of its body.
+// Statements: a statement's field, what may stand behind one, and all of a thread.
+// Every function is given the whole sheet s and the place of a statement's field in it.
 use crate::fields::byte_at;
 use crate::fields::has_body;
 use crate::fields::length_at;
-use crate::held::field_at;
+use crate::heads::field_at;
+use crate::operands::Names;
+use crate::operands::action_end;
 use crate::outcome::Count;
 use crate::outcome::End;
 use crate::outcome::Next;
-use expression::Parsed;
-use expression::num16_at;
-use expression::read_arith;
-use expression::read_condition;
+use crate::ticks::Time;
+use crate::ticks::time16_at;
 use refusal::Refusal;
 ghost use mathlib.Core.Path.{_≡_};
-ghost use mathlib.Core.Bool.{true};
 ghost use Prim.Native.Nat.{_+_, _≤_, _<_};
 ghost use lib.ListN.{length};
-ghost use lib.Seq.{slice};
 ghost use Rattle.rules.specs.Constants.{longestSheet, mostStatements};
-ghost use Rattle.rules.specs.Format.{byte, num16, lengthFits, timesFit, readAction, readContents, readStatement, statementHere, readStatements};
-ghost use Rattle.reader.specs.Outcome.{endOf, nextOf, namesOf, exactEnd};
-ghost use Rattle.reader.specs.Index.{targetAt, targetsAt, lastAt, StatementsRead};
-
-const DEEPEST: usize = 12;
+ghost use Rattle.rules.specs.Format.{num16, lengthFits, timesFit, readContents, readStatement, statementHere, readStatements};
+ghost use Rattle.reader.specs.Outcome.{endOf, nextOf, namesOf};
+ghost use Rattle.reader.specs.Index.{StatementsRead};
 
 pub const MOST_STATEMENTS: usize = 64;
-
-// What a thread's statements may name: its registers, and the sheet's variables and locks.
-pub struct Names {
-    pub regs: usize,
-    pub vars: usize,
-    pub locks: usize,
-}
-
-// ---- operands, which stand from p up to e
-
-// An expression is to end where the body ends; a fault in it is the field's.
-fn exact_end(x: Parsed, at: usize, e: usize) -> End
-    ensures { λ r. ⌜ r ≡ exactEnd at e x ⌝ }
-{
-    match x {
-        Parsed::Refused(r) => End::Refused(r, at),
-        Parsed::Good(q) => {
-            if q == e {
-                return End::At(q);
-            }
-            End::Refused(Refusal::BadExpression, at)
-        }
-    }
-}
-
-fn assign_end(s: &[u8], names: Names, at: usize, e: usize, p: usize) -> End
-    requires { ⌜ (p < e) × (e ≤ length (now s)) ⌝ }
-    ensures { λ r. ⌜ r ≡ endOf (readAction 2 (namesOf names) (now (s .entry)) at e p) ⌝ }
-{
-    let r = byte_at(s, p);
-    if names.regs <= r {
-        return End::Refused(Refusal::NoSuchName, at);
-    }
-    let x = read_arith(s, p + 1, e, names.regs, DEEPEST);
-    exact_end(x, at, e)
-}
-
-fn branch_end(s: &[u8], names: Names, at: usize, e: usize, p: usize) -> End
-    requires { ⌜ (p < e) × (e ≤ length (now s)) ⌝ }
-    ensures { λ r. ⌜ r ≡ endOf (readAction 3 (namesOf names) (now (s .entry)) at e p) ⌝ }
-{
-    let x = read_condition(s, p + 1, e, names.regs, DEEPEST);
-    exact_end(x, at, e)
-}
-
-// Store and load: a register and a variable.
-fn transfer_end(s: &[u8], names: Names, at: usize, e: usize, p: usize) -> End
-    requires { ⌜ (p < e) × (e ≤ length (now s)) ⌝ }
-    ensures { λ r. ⌜ (r ≡ endOf (readAction 4 (namesOf names) (now (s .entry)) at e p)) × (r ≡ endOf (readAction 5 (namesOf names) (now (s .entry)) at e p)) ⌝ }
-{
-    let a = byte_at(s, p);
-    let b = byte_at(s, p + 1);
-    if names.regs <= a {
-        return End::Refused(Refusal::NoSuchName, at);
-    }
-    if names.vars <= b {
-        return End::Refused(Refusal::NoSuchName, at);
-    }
-    End::At(e)
-}
-
-// Unlock and lock.
-fn lock_end(s: &[u8], names: Names, at: usize, e: usize, p: usize) -> End
-    ensures { λ r. ⌜ (r ≡ endOf (readAction 6 (namesOf names) (now (s .entry)) at e p)) × (r ≡ endOf (readAction 7 (namesOf names) (now (s .entry)) at e p)) ⌝ }
-{
-    let a = byte_at(s, p);
-    if names.locks <= a {
-        return End::Refused(Refusal::NoSuchName, at);
-    }
-    End::At(e)
-}
-
-// The operands of the code c, in a body of n bytes.
-fn action_end(s: &[u8], names: Names, at: usize, c: usize, n: usize) -> End
-    requires { ⌜ (c ≤ 7) × (lengthFits c n ≡ true) × (5 ≤ n) × (at + 3 + n ≤ length (now s)) ⌝ }
-    ensures { λ r. ⌜ r ≡ endOf (readAction c (namesOf names) (now (s .entry)) at (at + 3 + n) (at + 8)) ⌝ }
-{
-    let e = at + 3 + n;
-    let p = at + 8;
-    if c <= 1 {
-        return End::At(e);
-    }
-    if c == 2 {
-        return assign_end(s, names, at, e, p);
-    }
-    if c == 3 {
-        return branch_end(s, names, at, e, p);
-    }
-    if c <= 5 {
-        return transfer_end(s, names, at, e, p);
-    }
-    lock_end(s, names, at, e, p)
-}
 
 // ---- a statement's field
 
@@ -136,17 +39,17 @@ fn length_fits(c: usize, n: usize) -> bool
     n == 6
 }
 
-fn times_fit(c: usize, least: u32, greatest: u32) -> bool
-    ensures { λ r. ⌜ r ≡ timesFit c least greatest ⌝ }
+fn times_fit(c: usize, least: Time, greatest: Time) -> bool
+    ensures { λ r. ⌜ r ≡ timesFit c (least .0) (greatest .0) ⌝ }
 {
     if c == 0 {
-        if least == 0 {
-            return greatest == 0;
+        if least.0 == 0 {
+            return greatest.0 == 0;
         }
         return false;
     }
-    if 1 <= least {
-        return least <= greatest;
+    if 1 <= least.0 {
+        return least.0 <= greatest.0;
     }
     false
 }
@@ -165,8 +68,8 @@ fn contents_end(s: &[u8], names: Names, at: usize) -> End
         return End::Refused(Refusal::OffRange, at);
     }
     if length_fits(c, n) {
-        let least = num16_at(s, at + 3);
-        let greatest = num16_at(s, at + 5);
+        let least = time16_at(s, at + 3);
+        let greatest = time16_at(s, at + 5);
         if times_fit(c, least, greatest) {
             return action_end(s, names, at, c, n);
         }
@@ -221,7 +124,7 @@ fn later_here(s: &[u8], at: usize) -> Next
 }
 
 // n is how many were read.
-pub fn statement_here(s: &[u8], n: usize, at: usize) -> Next
+fn statement_here(s: &[u8], n: usize, at: usize) -> Next
     ensures { λ r. ⌜ r ≡ nextOf (statementHere n (now (s .entry)) at) ⌝ }
 {
     if 0 < n {
@@ -270,51 +173,4 @@ pub(crate) fn read_statements(
             }
         }
     }
-}
-
-// ---- closing a thread, from the places of its statements
-
-// The statement at p is no if, or its target is below n.
-fn target_fits(s: &[u8], n: usize, p: usize) -> bool
-    requires { ⌜ p < 65536 ⌝ }
-    ensures { λ r. ⌜ r ≡ targetAt (now (s .entry)) n p ⌝ }
-{
-    let c = byte_at(s, p + 7);
-    if c == 3 {
-        let t = byte_at(s, p + 8);
-        return t < n;
-    }
-    true
-}
-
-fn targets_end(s: &[u8], places: &[u16], base: usize, n: usize, q: usize) -> End
-    requires { ⌜ base + n ≤ length (now places) ⌝ }
-    ensures { λ r. ⌜ r ≡ targetsAt (now (s .entry)) n (slice base (base + n) (now (places .entry))) (End.At q) ⌝ }
-{
-    let mut k: usize = 0;
-    while k < n {
-        let p = places[base + k] as usize;
-        if target_fits(s, n, p) {
-            k += 1;
-        } else {
-            return End::Refused(Refusal::NoSuchName, p);
-        }
-    }
-    End::At(q)
-}
-
-// The last of n statements is halt, then their targets; q is the place behind them.
-pub(crate) fn close_end(s: &[u8], places: &[u16], base: usize, n: usize, q: usize) -> End
-    requires { ⌜ base + n ≤ length (now places) ⌝ }
-    ensures { λ r. ⌜ r ≡ lastAt (now (s .entry)) (slice base (base + n) (now (places .entry))) (targetsAt (now (s .entry)) n (slice base (base + n) (now (places .entry))) (End.At q)) ⌝ }
-{
-    if n == 0 {
-        return targets_end(s, places, base, n, q);
-    }
-    let p = places[base + n - 1] as usize;
-    let c = byte_at(s, p + 7);
-    if c == 0 {
-        return targets_end(s, places, base, n, q);
-    }
-    End::Refused(Refusal::NoHalt, p)
 }

@@ -1,23 +1,23 @@
 // Threads: the field of tag 4, the registers, the statements and the closing of each, and the tables of an index.
+use crate::closing::close_end;
 use crate::fields::byte_at;
 use crate::fields::open_end;
+use crate::operands::Names;
 use crate::outcome::Count;
 use crate::outcome::End;
 use crate::ranges::registers_end;
 use crate::statements::MOST_STATEMENTS;
-use crate::statements::Names;
-use crate::statements::close_end;
 use crate::statements::read_statements;
 use refusal::Refusal;
 ghost use mathlib.Core.Path.{_≡_};
-ghost use Prim.Native.Nat.{_+_, _*_, _≤_, _<_};
+ghost use Prim.Native.Nat.{_+_, _*_, _≤_};
 ghost use lib.ListN.{length};
 ghost use Rattle.rules.specs.Constants.{longestSheet, mostThreads, mostStatements};
 ghost use Rattle.rules.specs.Format.{byte, readThread, readThreads};
 ghost use Rattle.reader.specs.Outcome.{failure};
 ghost use Rattle.reader.specs.Index.{ThreadRead, ThreadsRead, entryWith};
 
-const MOST_THREADS: usize = 4;
+pub const MOST_THREADS: usize = 4;
 
 // Where a thread's field of tag 4 stands, and how many registers and statements it has.
 pub struct ThreadEntry {
@@ -27,9 +27,9 @@ pub struct ThreadEntry {
 }
 
 // How many threads were read and the place behind them, or the refusal; and their entries.
-pub struct Threads {
+pub(crate) struct Threads {
     pub end: Count,
-    pub entries: [ThreadEntry; 4],
+    pub entries: [ThreadEntry; MOST_THREADS],
 }
 
 // A refusal where a count is due.
@@ -92,7 +92,7 @@ fn entry_at(s: &[u8], p: usize, n: usize) -> ThreadEntry
     }
 }
 
-// All threads; the places of thread t's statements go into the table from t * 64 on.
+// All threads; the places of thread t's statements go into the table from t * MOST_STATEMENTS on.
 pub(crate) fn read_threads(
     s: &[u8],
     vars: usize,
@@ -108,7 +108,7 @@ pub(crate) fn read_threads(
         registers: 0,
         statements: 0,
     };
-    let mut entries = [none; 4];
+    let mut entries = [none; MOST_THREADS];
     let mut t: usize = 0;
     let mut p = at;
     loop {

@@ -1,8 +1,9 @@
 // Reads sheets from standard input, each behind its length in two bytes, and writes a line for each: its refusal and place,
 // and where these are 0 the numbers of its index, an entry for each thread, and each statement as it decodes at its place.
 use reader::Index;
+use reader::MOST_STATEMENTS;
+use reader::MOST_THREADS;
 use reader::decoding::Action;
-use reader::decoding::Statement;
 use reader::decoding::statement_at;
 use reader::read_sheet;
 ghost use Prim.Native.Nat.{_<_};
@@ -62,20 +63,20 @@ fn put_statement(sheet: &[u8], place: usize) {
         if place + 8 <= sheet.len() {
             let x = statement_at(sheet, place);
             let a = x.action;
-            put_three(place, x.least as usize, x.greatest as usize);
+            put_three(place, x.least.0 as usize, x.greatest.0 as usize);
             put_action(a);
         }
     }
 }
 
 fn put_thread(sheet: &[u8], x: Index, t: usize) {
-    if t < 4 {
+    if t < MOST_THREADS {
         let e = x.entries[t];
         let n = wide(e.statements);
         put_three(wide(e.place), wide(e.registers), n);
-        for k in 0..64 {
+        for k in 0..MOST_STATEMENTS {
             if k < n {
-                put_statement(sheet, wide(x.places[t * 64 + k]));
+                put_statement(sheet, wide(x.places[t * MOST_STATEMENTS + k]));
             }
         }
     }
@@ -83,14 +84,14 @@ fn put_thread(sheet: &[u8], x: Index, t: usize) {
 
 fn put_sheet(sheet: &[u8]) {
     let x = read_sheet(sheet);
-    put_three(x.refusal as usize, x.place, x.limit as usize);
+    put_three(x.refusal as usize, x.place, x.limit.0 as usize);
     put_three(
         x.budget as usize,
-        x.label_low as usize,
-        x.label_high as usize,
+        x.label_low.0 as usize,
+        x.label_high.0 as usize,
     );
     put_three(x.locks, x.variables, x.threads);
-    for t in 0..4 {
+    for t in 0..MOST_THREADS {
         if t < x.threads {
             put_thread(sheet, x, t);
         }

@@ -1,6 +1,6 @@
--- Demand 3, proved: an accepted label holds for every run. The start of an accepted sheet is good, and so is every state that
+-- An accepted window lies inside the label and holds every finish. Demand 3, proved: an accepted label holds for every run. The start of an accepted sheet is good, and so is every state that
 -- a run from it leaves; each event takes a clock up, and no clock passes the limit.
-use mathlib.Core.Path.{_≡_, refl, ap}
+use mathlib.Core.Path.{_≡_, refl, sym, ap, subst, _∙_}
 use mathlib.Core.Logic.{_⊎_, inl, inr}
 use mathlib.Core.Bool.{not, _&&_}
 use mathlib.Core.List.{List, [], _∷_}
@@ -9,19 +9,19 @@ use native.Mathlib.Omega.{arith}
 use lib.Dec.{T, leb, eqb, leb→le}
 use lib.ListN.{length}
 use Rattle.rules.specs.Base.{_&_}
-use Rattle.rules.specs.Refusal.{Refusal, number}
-use Rattle.rules.specs.Refusal.{short, outOfTurn, badLength, offRange, noSuchName, badExpression, noHalt, tooMany, tooLong, noReading, stuck, pastLimit, outOfSteps, outOfRoom, labelBroken}
+use Rattle.rules.specs.Refusal.{number, outOfRoom, labelBroken}
 use Rattle.rules.specs.Constants.{numbersPerState}
 use Rattle.rules.specs.Program.{Header, Program}
 use Rattle.rules.specs.Format.{Bytes, Got, bad, got, readSheet}
 use Rattle.rules.specs.Run.{RunState, Event, Outcome, notEvent, noResult, next, step, continue, play, Happens, IsRun, threadOf, CanGoOn, finished, greatestClock, Starts}
 use Rattle.rules.specs.Search.{Window, unseen, seen, End, fails, finds, searchFrom, Answer, five, judge, answerWith, answer}
-use Rattle.rules.specs.Demands.{HoldsOfRun, AcceptedHolds}
+use Rattle.rules.specs.Demands.{HoldsOfRun, AcceptedInside, AcceptedHolds}
 use Rattle.rules.proofs.Base.{if-ind, and-left, and-right, not-both, not-intro}
+use Rattle.rules.proofs.Refusal.{positive}
 use Rattle.rules.proofs.Format.{ProgramSays, program-says}
 use Rattle.rules.proofs.Event.{event-ends, StepSays, step-says}
 use Rattle.rules.proofs.Progress.{total, total-bound, Ready, finished-or-goes-on, finished-stops, event-advances, start-ready}
-use Rattle.rules.proofs.SearchGood.{Inside, Good, good, start-good, low-start, low-start-starts, IsSeen, window-found}
+use Rattle.rules.proofs.SearchGood.{Inside, Good, good, start-good, low-start, low-start-starts}
 
 -- ---- the list of events
 
@@ -57,6 +57,18 @@ module _ (g : Program) (says : ProgramSays g) (w : Window) where
             clocks-up = omega (arith, rest .clocks-up, a .clock-up);
           }
 
+-- a state at which a run may be finished inside the window
+ends-in-window : {g : Program} {w : Window} {x : RunState} → Good g w x → T (finished g x) → Inside w (greatestClock (x .threads))
+ends-in-window (good x f l z n) h = f h
+
+-- a run that finishes does so inside the window
+finishes-inside : (g : Program) (says : ProgramSays g) (w : Window) (s : RunState) → Starts g s → Good g w s → (es : List Event) (x : RunState)
+    → play g s es ≡ next x → T (finished g x) → Inside w (greatestClock (x .threads))
+finishes-inside g says w s starts is-good es x q f =
+    let k = run-leaves g says w es s is-good (start-ready g s starts) (subst Happens (sym q) tt) in
+    let e : x ≡ k .state = cc (sym q ∙ k .has-result) in
+    subst (λ (y : RunState). Inside w (greatestClock (y .threads))) (sym e) (ends-in-window (k .is-good) (subst (λ (y : RunState). T (finished g y)) e f))
+
 -- ---- the label
 
 -- the window lies inside the label
@@ -83,9 +95,6 @@ module _ (g : Program) (says : ProgramSays g) (w : Window) (inside : InLabel (g 
       goes-on x (inl f) n = absurd (not-both (finished g x) n f)
       goes-on x (inr v) n = v
 
-      ends-in-window : {x : RunState} → Good g w x → T (finished g x) → Inside w (greatestClock (x .threads))
-      ends-in-window (good x f l z n) h = f h
-
       few : {x : RunState} → Ready g x → length es + total (s .threads) ≤ total (x .threads) → length es ≤ length (g .threads) * g .header .limit
       few {x} r h =
           let b : total (x .threads) ≤ length (x .threads) * g .header .limit = total-bound (g .header .limit) (x .threads) (unfold threadOf in r .in-limit) in
@@ -100,32 +109,11 @@ pub record Accepted (g : Program) (slots : ℕ) (a : Answer) : Type 0 where
   pub above-label-low : g .header .labelLow ≤ a .low
   pub below-label-high : a .high ≤ g .header .labelHigh
 
-positive : (r : Refusal) → number r ≡ 0 → ⊥
-positive short e = omega arith
-positive outOfTurn e = omega arith
-positive badLength e = omega arith
-positive offRange e = omega arith
-positive noSuchName e = omega arith
-positive badExpression e = omega arith
-positive noHalt e = omega arith
-positive tooMany e = omega arith
-positive tooLong e = omega arith
-positive noReading e = omega arith
-positive stuck e = omega arith
-positive pastLimit e = omega arith
-positive outOfSteps e = omega arith
-positive outOfRoom e = omega arith
-positive labelBroken e = omega arith
-
-judged : (g : Program) (slots : ℕ) → ((m : ℕ) (w : Window) → searchFrom g slots ≡ finds m w → IsSeen w) → (r : End) → searchFrom g slots ≡ r
-    → judge (g .header) r .refusal ≡ 0 → Accepted g slots (judge (g .header) r)
+judged : (g : Program) (slots : ℕ) (r : End) → searchFrom g slots ≡ r → judge (g .header .labelLow) (g .header .labelHigh) r .refusal ≡ 0 → Accepted g slots (judge (g .header .labelLow) (g .header .labelHigh) r)
 unfolding judge
-judged g slots f (fails r p n) q = λ e. absurd (positive r e)
-judged g slots f (finds n unseen) q = λ e. let h = f n unseen q in absurd (not-seen (h .2))
-  where
-    not-seen : {a b : ℕ} → unseen ≡ seen a b → ⊥
-    not-seen e = let z : _≡_ {A = ℕ} 0 1 = cc in omega arith
-judged g slots f (finds n (seen a b)) q =
+judged g slots (fails r p n) q = λ e. absurd (positive r e)
+judged g slots (finds n unseen) q = λ e. absurd (positive labelBroken e)
+judged g slots (finds n (seen a b)) q =
     let l = leb (g .header .labelLow) a in
     let h = leb b (g .header .labelHigh) in
     if-ind (l && h) (five 0 0 n a b) (five (number labelBroken) 0 n a b) (λ x. x .refusal ≡ 0 → Accepted g slots x)
@@ -143,10 +131,27 @@ accepted sheet n = by (readSheet sheet) refl
     by (got g end) q =
         let slots = n / numbersPerState in
         unfold answerWith in
-        if-ind (eqb slots 0) (five (number outOfRoom) 0 0 0 0) (judge (g .header) (searchFrom g slots))
+        if-ind (eqb slots 0) (five (number outOfRoom) 0 0 0 0) (judge (g .header .labelLow) (g .header .labelHigh) (searchFrom g slots))
         (λ a. a .refusal ≡ 0 → (g′ : Program) × (end′ : ℕ) × (got g end ≡ got g′ end′) × Accepted g′ slots a)
         (λ _ e. absurd (positive outOfRoom e))
-        (λ _ e. (g, end, refl, judged g slots (window-found sheet g end q slots) (searchFrom g slots) refl e))
+        (λ _ e. (g, end, refl, judged g slots (searchFrom g slots) refl e))
+
+-- ---- demand 2: the window of an accepted sheet
+
+pub accepted-inside : AcceptedInside
+accepted-inside sheet n e =
+    let (g, end, q, a) = accepted sheet n e in
+    let says = program-says sheet g end q in
+    let x = answer sheet n in
+    let w = seen (x .low) (x .high) in
+    record {
+      program = g;
+      end = end;
+      reads = q;
+      from-label = a .above-label-low;
+      to-label = a .below-label-high;
+      holds-finishes = λ s h es y p f. finishes-inside g says w s h (start-good g (n / numbersPerState) (x .steps) w (a .found) s h) es y p f;
+    }
 
 -- ---- demand 3
 

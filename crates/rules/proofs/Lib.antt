@@ -6,6 +6,7 @@ pub mod Order
 pub mod Ends
 pub mod Interval
 pub mod Tight
+pub mod Refusal
 pub mod Format
 pub mod Expression
 pub mod Narrowing
@@ -19,3 +20,4 @@ pub mod Search
 pub mod SearchGood
 pub mod Demands
 pub mod ExampleRun
+pub mod ShutOut

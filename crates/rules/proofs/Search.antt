@@ -125,10 +125,10 @@ module _ (g : Program) (slots : ℕ) where
     place-only = λ _. refl;
   }
 
-  judged : (e : End) → GivenEnd e → StepsAre g (statesTaken g slots) (stepsOf e) → SearchedSheet g slots (judge (g .header) e)
+  judged : (e : End) → GivenEnd e → StepsAre g (statesTaken g slots) (stepsOf e) → SearchedSheet g slots (judge (g .header .labelLow) (g .header .labelHigh) e)
   unfolding judge
   judged (fails r p n) k h = failed r p n k h
-  judged (finds n unseen) k h = accepted n 0 0 h
+  judged (finds n unseen) k h = broken n 0 0 h
   judged (finds n (seen a b)) k h =
       if-ind (leb (g .header .labelLow) a && leb b (g .header .labelHigh)) (five 0 0 n a b) (five (number labelBroken) 0 n a b) (SearchedSheet g slots)
       (λ _. accepted n a b h) (λ _. broken n a b h)
@@ -149,7 +149,7 @@ module _ (g : Program) (slots : ℕ) where
   searched : (e : ℕ) → SearchedSheet g slots (answerWith slots (got g e))
   unfolding answerWith
   searched e =
-      if-ind (eqb slots 0) (five (number outOfRoom) 0 0 0 0) (judge (g .header) (searchFrom g slots)) (SearchedSheet g slots)
+      if-ind (eqb slots 0) (five (number outOfRoom) 0 0 0 0) (judge (g .header .labelLow) (g .header .labelHigh) (searchFrom g slots)) (SearchedSheet g slots)
       (λ t. failed outOfRoom 0 0 no-room (no-slots t))
       (λ n. judged (searchFrom g slots) (unfold searchFrom in search-given (g .header .budget) g slots (start g ∷ []) unseen 0) (some-slots n))
 

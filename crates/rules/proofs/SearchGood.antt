@@ -16,9 +16,9 @@ use Rattle.rules.specs.Refusal.{Refusal, Result, value, fault}
 use Rattle.rules.specs.Refusal.{outOfRoom}
 use Rattle.rules.specs.Interval.{Interval}
 use Rattle.rules.specs.Program.{Thread, Program}
-use Rattle.rules.specs.Format.{Bytes, got, readSheet}
 use Rattle.rules.specs.Run.{RunThread, RunState, CanGoOn, finished, greatestClock, AllIn, no-values, one-value, ThreadsStart, no-more, one-more, Starts}
 use Rattle.rules.specs.Search.{State, Turn, refused, ended, follow, turn, Window, unseen, seen, widen, Step, stop, goOn, afterTurn, searchStep, End, fails, finds, resume, search, start, searchFrom}
+use Rattle.rules.specs.Demands.{IsSeen, WindowFound}
 use Rattle.rules.proofs.Base.{each-left, each-right, both-of}
 use Rattle.rules.proofs.Interval.{Ordered, low-in}
 use Rattle.rules.proofs.Format.{ThreadSays, ProgramSays, program-says}
@@ -184,14 +184,11 @@ module _ (g : Program) (says : ProgramSays g) (w : Window) where
       by (inl h) ih = (greatestClock (s .threads), f h)
       by (inr v) ih = on (v .0) (v .1) (event-ends g s (v .0) (v .1) (v .2)) ih (acted g s (v .0) (v .1)) refl
 
-abbrev pub IsSeen : Window → Type 0
-IsSeen w = (a : ℕ) × (b : ℕ) × (w ≡ seen a b)
-
 seen-of : (w : Window) (e : ℕ) → Inside w e → IsSeen w
 seen-of unseen e h = absurd h
 seen-of (seen a b) e h = (a, b, refl)
 
-pub window-found : (sheet : Bytes) (g : Program) (end : ℕ) → readSheet sheet ≡ got g end → (slots m : ℕ) (w : Window) → searchFrom g slots ≡ finds m w → IsSeen w
+pub window-found : WindowFound
 window-found sheet g end q slots m w h =
     let says = program-says sheet g end q in
     let starts = low-start-starts g says in

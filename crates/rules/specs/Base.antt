@@ -23,3 +23,7 @@ infixr 20 _&_
 pub data Each {A : Type 0} (P : A → Type 0) : List A → Type 0 where
   nil : Each P []
   _&_ : {x : A} {xs : List A} → P x → Each P xs → Each P (x ∷ xs)
+
+-- what the papers leave free: a promise names it so, and says nothing of it
+abbrev pub Free : {A : Type 0} → A → Type 0
+Free x = Unit {0}

@@ -37,6 +37,10 @@ greatestBudget = 10000000
 abbrev pub numbersPerState : ℕ
 numbersPerState = 100
 
+-- "A small program [..] lends 12,000 numbers"
+abbrev pub lentByProgram : ℕ
+lentByProgram = 12000
+
 -- the 32-bit values are those from -half32 up to half32 less 1
 abbrev pub half32 : ℕ
 half32 = 2 ^ 31

@@ -1,5 +1,5 @@
--- The three demands of the request, stated. Nothing here is proved: `proofs/Demands.antt` proves the third, and the promise of
--- the library's call says all three of its sheet and its work buffer.
+-- The three demands of the request, stated. Nothing here is proved: `proofs/Demands.antt` proves what they say of the rules
+-- themselves, and the promise of the library's call says all three of its sheet and its work buffer.
 use mathlib.Core.Path.{_≡_}
 use mathlib.Core.Bool.{not}
 use mathlib.Core.List.{List}
@@ -9,8 +9,8 @@ use lib.IntN.{ℤ, pos}
 use lib.ListN.{length, replicate}
 use Rattle.rules.specs.Program.{Program}
 use Rattle.rules.specs.Format.{Bytes, got, readSheet}
-use Rattle.rules.specs.Run.{RunState, Event, Outcome, next, play, IsRun, CanGoOn, finished, greatestClock, Starts}
-use Rattle.rules.specs.Search.{Answer, answer}
+use Rattle.rules.specs.Run.{RunState, Event, next, play, IsRun, CanGoOn, finished, greatestClock, Starts}
+use Rattle.rules.specs.Search.{Window, seen, finds, searchFrom, Answer, answer}
 
 -- ---- 1. "the work buffer is all zeros at return", whatever the sheet and however small the buffer
 -- (that a call reads nothing outside what it was lent, wraps no sum and returns is proved of every function)
@@ -18,10 +18,36 @@ use Rattle.rules.specs.Search.{Answer, answer}
 abbrev pub AllZeros : List ℤ → List ℤ → Type 0
 AllZeros lent left = left ≡ replicate (length lent) (pos 0)
 
+-- 01: "the sheet is unchanged", in every case
+abbrev pub Unchanged : Bytes → Bytes → Type 0
+Unchanged before after = after ≡ before
+
 -- ---- 2. "The window, the step count and each refusal are the ones those rules give, no wider and no narrower"
 
 abbrev pub FollowsTheRules : Bytes → List ℤ → Answer → Type 0
 FollowsTheRules sheet lent given = given ≡ answer sheet (length lent)
+
+-- "a label is accepted only if the window lies inside it": of an accepted sheet and its five numbers. And every run that
+-- finishes does so inside the window
+pub record WindowInside (sheet : Bytes) (given : Answer) : Type 0 where
+  pub program : Program
+  pub end : ℕ
+  pub reads : readSheet sheet ≡ got program end
+  pub from-label : program .header .labelLow ≤ given .low
+  pub to-label : given .high ≤ program .header .labelHigh
+  pub holds-finishes : (s : RunState) → Starts program s → (es : List Event) (x : RunState) → play program s es ≡ next x → T (finished program x)
+      → (given .low ≤ greatestClock (x .threads)) × (greatestClock (x .threads) ≤ given .high)
+
+abbrev pub AcceptedInside : Type 0
+AcceptedInside = (sheet : Bytes) (n : ℕ) → answer sheet n .refusal ≡ 0 → WindowInside sheet (answer sheet n)
+
+-- 01: "A search that ends without a refusal has found a window; this is shown."
+abbrev pub IsSeen : Window → Type 0
+IsSeen w = (a : ℕ) × (b : ℕ) × (w ≡ seen a b)
+
+abbrev pub WindowFound : Type 0
+WindowFound = (sheet : Bytes) (g : Program) (end : ℕ) → readSheet sheet ≡ got g end
+    → (slots steps : ℕ) (w : Window) → searchFrom g slots ≡ finds steps w → IsSeen w
 
 -- ---- 3. what holds of a list of events that is a run from a starting state
 

@@ -9,7 +9,11 @@ pub mod Lock
 pub mod Run
 pub mod Expression
 pub mod Search
+pub mod Product
 pub mod Demands
 pub mod Sheets
 pub mod Worked
+pub mod Edges
 pub mod Examples
+pub mod Runs
+pub mod ShutOut

@@ -1,5 +1,5 @@
 -- The search over states of intervals, and the five numbers of the whole (01, "The search").
-use mathlib.Core.Bool.{Bool, true, false, _&&_, not}
+use mathlib.Core.Bool.{Bool, false, _&&_, not}
 use mathlib.Core.Option.{Option, none, some}
 use mathlib.Core.List.{List, [], _∷_, _++_, map}
 use Prim.Native.Nat.{ℕ, zero, suc, _+_, _/_, min, max}
@@ -9,7 +9,7 @@ use Rattle.rules.specs.Base.{if_then_else_, all}
 use Rattle.rules.specs.Refusal.{Refusal, number, stuck, pastLimit, outOfSteps, outOfRoom, labelBroken, Result, value, fault}
 use Rattle.rules.specs.Constants.{numbersPerState}
 use Rattle.rules.specs.Interval.{Interval}
-use Rattle.rules.specs.Program.{Action, halt, skip, assign, branch, store, load, unlock, lock, isHalt, Statement, Thread, Header, Program, noStatement}
+use Rattle.rules.specs.Program.{Action, halt, skip, assign, branch, store, load, unlock, lock, isHalt, Statement, Thread, Program, noStatement}
 use Rattle.rules.specs.Lock.{Owner, mayTake, afterLock, afterUnlock}
 use Rattle.rules.specs.Expression.{Regs, zeroInterval, evaluate, allParts, narrowYes, narrowNo}
 use Rattle.rules.specs.Format.{Bytes, Got, bad, got, readSheet}
@@ -233,17 +233,18 @@ pub record Answer : Type 0 where
 abbrev pub five : ℕ → ℕ → ℕ → ℕ → ℕ → Answer
 five r p n a b = record { refusal = r; place = p; steps = n; low = a; high = b }
 
--- 15: "the window found is not inside the label". A search that ends without a refusal has found a window, so the second
--- case does not occur
-unfoldable pub judge : Header → End → Answer
-judge h (fails r p n) = five (number r) p n 0 0
-judge h (finds n unseen) = five 0 0 n 0 0
-judge h (finds n (seen a b)) = if leb (h .labelLow) a && leb b (h .labelHigh) then five 0 0 n a b else five (number labelBroken) 0 n a b
+-- the five numbers of a search that ended, by the label low..high. 15: "the window found is not inside the label". A search that
+-- ends without a refusal has found a window (`Demands.WindowFound`), so the second case does not occur; it is a refusal all the
+-- same
+unfoldable pub judge : ℕ → ℕ → End → Answer
+judge low high (fails r p n) = five (number r) p n 0 0
+judge low high (finds n unseen) = five (number labelBroken) 0 n 0 0
+judge low high (finds n (seen a b)) = if leb low a && leb b high then five 0 0 n a b else five (number labelBroken) 0 n a b
 
 -- "slots are the buffer's length divided by 100, rounded down. At the start one state is held (0 slots: refusal 14, steps 0)."
 unfoldable pub answerWith : ℕ → Got Program → Answer
 answerWith slots (bad r p) = five (number r) p 0 0 0
-answerWith slots (got g e) = if eqb slots 0 then five (number outOfRoom) 0 0 0 0 else judge (g .header) (searchFrom g slots)
+answerWith slots (got g e) = if eqb slots 0 then five (number outOfRoom) 0 0 0 0 else judge (g .header .labelLow) (g .header .labelHigh) (searchFrom g slots)
 
 -- the five numbers for a sheet and the length of the work buffer
 unfoldable pub answer : Bytes → ℕ → Answer

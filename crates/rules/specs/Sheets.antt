@@ -1,5 +1,5 @@
 -- How a sheet's bytes are written, for the worked sheets.
-use mathlib.Core.List.{List, [], _∷_, _++_}
+use mathlib.Core.List.{[], _∷_, _++_}
 use Prim.Native.Nat.{ℕ, _/_, _%_}
 use lib.ListN.{length}
 use Rattle.rules.specs.Format.{Bytes}
@@ -70,6 +70,15 @@ plus a b = 18 ∷ a ++ b
 
 abbrev pub times : Bytes → Bytes → Bytes
 times a b = 20 ∷ a ++ b
+
+abbrev pub divide : Bytes → Bytes → Bytes
+divide a b = 21 ∷ a ++ b
+
+abbrev pub always : Bytes
+always = 32 ∷ []
+
+abbrev pub not : Bytes → Bytes
+not c = 34 ∷ c
 
 abbrev pub equal : Bytes → Bytes → Bytes
 equal a b = 36 ∷ a ++ b

@@ -12,12 +12,15 @@ use Rattle.rules.specs.Program as P
 use Rattle.rules.specs.Expression.{Regs, evaluate, allParts, narrowYes, narrowNo}
 use Rattle.rules.specs.Format.{Bytes}
 use Rattle.rules.specs.Search.{Answer, five, answer}
+use Rattle.rules.specs.Product.{bytes, printed}
 use Rattle.rules.specs.Sheets.{header, locks, thread, register, halt, skip, branch, lock, unlock, constant, reg, equal, less}
 
 -- a fact about the rules
 pub data Fact : Type 0 where
   -- a sheet, with a work buffer of a length, gives five numbers
   gives : Bytes → ℕ → Answer → Fact
+  -- the program prints of a sheet
+  prints : Bytes → Bytes → Fact
   -- an expression on registers comes to an interval, or to a refusal
   evaluates : Arith → Regs → Result Interval → Fact
   -- every part of a condition on registers has a reading, or some part gives a refusal
@@ -27,6 +30,7 @@ pub data Fact : Type 0 where
 
 abbrev pub Holds : Fact → Type 0
 Holds (gives s n a) = answer s n ≡ a
+Holds (prints s t) = printed s ≡ t
 Holds (evaluates e rs r) = evaluate e rs ≡ r
 Holds (checks c rs r) = allParts c rs ≡ r
 Holds (narrows c rs y n) = _≡_ {A = Option Regs × Option Regs} (narrowYes c rs, narrowNo c rs) (y, n)
@@ -75,6 +79,7 @@ unfoldable pub table : List Fact
 table =
     gives A 12000 (five 0 0 1 0 0)
     ∷ gives B 12000 (five 0 0 2 2 3)
+    ∷ prints B (bytes "0 0 2 2 3\n")
     ∷ gives (B-with 10 100 3 3) 12000 (five 15 0 2 2 3)
     ∷ gives (B-with 2 100 0 2) 12000 (five 12 0 1 0 0)
     ∷ gives (B-with 3 100 0 3) 12000 (five 0 0 2 2 3)

@@ -6,3 +6,4 @@ pub mod EventLaws
 pub mod ExpandLaws
 pub mod WholeTurn
 pub mod RunLaws
+pub mod WholeLaws

@@ -5,6 +5,7 @@ use Prim.Native.Nat.{ℕ, _+_, _*_, _-_, _≤_, min}
 use native.Mathlib.Omega.{arith}
 use lib.ListN.{length, length-append}
 use lib.IntN.{ℤ}
+use Rattle.rules.specs.Constants.{numbersPerState}
 use Rattle.rules.specs.Search as S
 use borrow.Rule.Slice.PartMut.{putMid}
 use Rattle.state.specs.Cells.{withSlot, decode, stackOf}
@@ -30,22 +31,22 @@ module _ {z : Sizes} {slots : ℕ} where
   }
 
   -- one, in the slot that is due: where none is left, the height alone says that one is missing
-  one-pushed : (b cells : List ℤ) (h : ℕ) → length cells ≡ 100 → h ≤ slots + 1 → Room slots b
+  one-pushed : (b cells : List ℤ) (h : ℕ) → length cells ≡ numbersPerState → h ≤ slots + 1 → Room slots b
       → Pushed z slots b (withSlot b (min h (slots - 1)) cells) h (min (h + 1) (slots + 1)) (stateOf z (decode cells) ∷ [])
-  one-pushed b cells h hundred high room =
-      let fits : min h (slots - 1) * 100 + 100 ≤ length b = omega (arith, room .0, room .1) in
+  one-pushed b cells h full high room =
+      let fits : min h (slots - 1) * numbersPerState + numbersPerState ≤ length b = omega (arith, room .0, room .1) in
       record {
         count = omega arith;
         stack = λ low.
             let slot : min h (slots - 1) ≡ h = omega arith in
             let height : min (h + 1) (slots + 1) ≡ h + 1 = omega arith in
-            let here : h * 100 + 100 ≤ length b = omega (arith, room .0, room .1) in
-            rw (slot, height) (ap (statesOf z) (push b h cells hundred here) ∙ states-cons z (decode cells) (stackOf h b));
-        same-length = with-slot-length b (min h (slots - 1)) cells hundred fits;
+            let here : h * numbersPerState + numbersPerState ≤ length b = omega (arith, room .0, room .1) in
+            rw (slot, height) (ap (statesOf z) (push b h cells full here) ∙ states-cons z (decode cells) (stackOf h b));
+        same-length = with-slot-length b (min h (slots - 1)) cells full fits;
       }
 
   -- as the code writes it
-  pub slot-pushed : (b cells : List ℤ) (h slot k : ℕ) (x : S.State) → length cells ≡ 100 → h ≤ slots + 1 → Room slots b → slot ≡ min h (slots - 1) → k ≡ min (h + 1) (slots + 1)
-      → stateOf z (decode cells) ≡ x → Pushed z slots b (putMid (slot * 100) (slot * 100 + 100 - slot * 100) b cells) h k (x ∷ [])
-  slot-pushed b cells h slot k x hundred high room es ek ex =
-      rw (slot-put b cells (slot * 100), es, ek, sym ex) (one-pushed b cells h hundred high room)
+  pub slot-pushed : (b cells : List ℤ) (h slot k : ℕ) (x : S.State) → length cells ≡ numbersPerState → h ≤ slots + 1 → Room slots b → slot ≡ min h (slots - 1) → k ≡ min (h + 1) (slots + 1)
+      → stateOf z (decode cells) ≡ x → Pushed z slots b (putMid (slot * numbersPerState) (slot * numbersPerState + numbersPerState - slot * numbersPerState) b cells) h k (x ∷ [])
+  slot-pushed b cells h slot k x full high room es ek ex =
+      rw (slot-put b cells (slot * numbersPerState), es, ek, sym ex) (one-pushed b cells h full high room)

@@ -1,5 +1,4 @@
--- Laws of the loop: what a step of the rules' search comes to, by what the code's turn gave; what holds at the loop's head; and
--- the search of a sheet that reads.
+-- Laws of the loop: what a step of the rules' search comes to, by what the code's turn gave, and what holds at the loop's head.
 use mathlib.Core.Path.{_≡_, refl, sym, ap, subst, _∙_}
 use mathlib.Core.List.{List, [], _∷_, _++_}
 use Prim.Native.Nat.{ℕ, zero, suc, _+_, _-_, _*_, _≤_, _<_}
@@ -12,14 +11,10 @@ use Rattle.rules.specs.Constants.{numbersPerState}
 use Rattle.rules.specs.Refusal as R
 use Rattle.rules.specs.Program.{Program}
 use Rattle.rules.specs.Search as S
-use Rattle.rules.specs.Format.{Bytes, got, readSheet}
-use Rattle.rules.specs.Search.{Turn, refused, ended, follow, turn, Window, unseen, widen, fails, finds, afterTurn, searchStep, resume, search, start, searchFrom}
+use Rattle.rules.specs.Search.{Turn, refused, ended, follow, turn, Window, unseen, widen, fails, finds, afterTurn, searchStep, resume, search}
 use Rattle.refusal.specs.Shape.{refusalOf, ruleOf}
 use Rattle.refusal.proofs.Laws.{rule-of-refusal}
 use Rattle.refusal.specs.declared.Refusal.{Refusal}
-use Rattle.reader.specs.declared.Index.{Index}
-use Rattle.reader.specs.Index.{indexOf}
-use Rattle.reader.proofs.Facts.{accepted, program-facts, index-facts}
 use Rattle.state.specs.declared.State.{State}
 use Rattle.state.specs.Shape.{Sizes, sizesOf, stateOf, statesOf}
 use Rattle.state.specs.Cells.{encode, decode, slotOf, stored, Sound, stackOf}
@@ -27,10 +22,11 @@ use Rattle.state.proofs.Shape.{states-nil, states-length}
 use Rattle.state.proofs.Round.{with-slot-length}
 use Rattle.state.proofs.Writing.{encode-length}
 use Rattle.state.proofs.Stack.{stack-length, push-states, top-states}
-use Rattle.search.specs.Plan.{programOf, programIn, Planned, Ready}
 use Rattle.search.specs.Turn.{Turns}
 use Rattle.search.specs.declared.turn.Turned.{Turned}
 use Rattle.search.specs.declared.turn.Turned.the-variants.{Refused, Ended, Height}
+use Rattle.reader.specs.declared.ticks.Time.{Time}
+use Rattle.reader.specs.Ticks.{tick}
 
 -- the state x on the stack xs, with so much of the budget left after this step
 module _ (left : ℕ) (g : Program) (slots : ℕ) (x : S.State) (xs : List S.State) (w : Window) (n : ℕ) where
@@ -74,16 +70,16 @@ module _ (left : ℕ) (g : Program) (z : Sizes) (slots : ℕ) (x : S.State) (b c
   turned-refused (ended y v) e q p k = let i : _≡_ {A = ℕ} 0 1 = cc (k .0) in absurd (omega arith)
   turned-refused (follow new) e q p k = let i : _≡_ {A = ℕ} 0 1 = cc (k .1) in absurd (omega arith)
 
-  pub turned-ended : (t : Turn) → turn g x ≡ t → (a d : ℕ) → Turns z slots b h c (Ended a d) t
-      → (search (suc left) g slots (x ∷ below) w n ≡ search left g slots (statesOf z (stackOf h c)) (widen w a d) (suc n)) × (length c ≡ length b)
+  pub turned-ended : (t : Turn) → turn g x ≡ t → (a d : Time) → Turns z slots b h c (Ended a d) t
+      → (search (suc left) g slots (x ∷ below) w n ≡ search left g slots (statesOf z (stackOf h c)) (widen w (a .0) (d .0)) (suc n)) × (length c ≡ length b)
   turned-ended (refused r o) e a d k = let i : _≡_ {A = ℕ} 0 1 = cc (k .0) in absurd (omega arith)
   turned-ended (ended y v) e a d k =
-      let f : a ≡ y = cc (k .0) in
-      let i : d ≡ v = cc (k .0) in (
+      let f : a ≡ tick y = cc (k .0) in
+      let i : d ≡ tick v = cc (k .0) in (
         step-ended left g slots x below w n y v e
-            ∙ ap (λ (u : ℕ). search left g slots below (widen w u v) (suc n)) (sym f)
-            ∙ ap (λ (u : ℕ). search left g slots below (widen w a u) (suc n)) (sym i)
-            ∙ ap (λ (u : List ℤ). search left g slots (statesOf z (stackOf h u)) (widen w a d) (suc n)) (sym (k .1)),
+            ∙ ap (λ (u : Time). search left g slots below (widen w (u .0) v) (suc n)) (sym f)
+            ∙ ap (λ (u : Time). search left g slots below (widen w (a .0) (u .0)) (suc n)) (sym i)
+            ∙ ap (λ (u : List ℤ). search left g slots (statesOf z (stackOf h u)) (widen w (a .0) (d .0)) (suc n)) (sym (k .1)),
         ap length (k .1),
       )
   turned-ended (follow new) e a d k = let i : _≡_ {A = ℕ} 0 1 = cc (k .1) in absurd (omega arith)
@@ -189,7 +185,7 @@ module _ {whole : S.End} {g : Program} {slots budget size : ℕ} {b : List ℤ} 
   pub goes-full : (k : ℕ) → m ≡ Height k → slots < k → whole ≡ fails R.outOfRoom 0 (steps + 1)
   goes-full k i l = rw add-one (here ∙ turned-full left g z slots x b c (height - 1) low w steps (turn g x) refl k l (made-as (Height k) i))
 
-  pub goes-ended : (p q : ℕ) {v : Window} → m ≡ Ended p q → v ≡ widen w p q → Goes whole g slots budget size c (height - 1) (steps + 1) v
+  pub goes-ended : (p q : Time) {v : Window} → m ≡ Ended p q → v ≡ widen w (p .0) (q .0) → Goes whole g slots budget size c (height - 1) (steps + 1) v
   goes-ended p q {v} i f =
       let more = taken .more in
       let t = turned-ended left g z slots x b c (height - 1) low w steps (turn g x) refl p q (made-as (Ended p q) i) in
@@ -240,35 +236,3 @@ goes-from {g} {slots} {budget} {c₀} b₀ s room sound e at =
       sized = at .sized ∙ ap length e ∙ with-slot-length b₀ 0 (encode s) (encode-length s) (omega arith);
       goes = ap (λ (xs : List S.State). search budget g slots xs unseen 0) (sym p) ∙ at .goes;
     }
-
--- ---- a sheet that reads, and its index
-
-program-is : (s : Bytes) (g : Program) (e : ℕ) → readSheet s ≡ got g e → programIn s ≡ g
-unfolding programIn
-program-is s g e q = ap programOf q
-
-module _ (s : Bytes) (i : Index) (h : i ≡ indexOf (readSheet s)) (fine : i .refusal ≡ 0) where
-  pub ready : Ready s (record { threads = i .threads; limit = i .limit; entries = i .entries }) (i .places)
-  ready =
-      let a = accepted (readSheet s) h fine in
-      let f = index-facts (a .0) (a .1) h (a .2) in
-      subst (λ (g : Program). Planned s g (record { threads = i .threads; limit = i .limit; entries = i .entries }) (i .places)) (sym (program-is s (a .0) (a .1) (a .2)))
-      (record {
-        facts = program-facts s (a .0) (a .1) (a .2);
-        threads = f .threads;
-        limit = f .limit;
-        entries = f .entries;
-        places-are = f .places;
-      })
-
-  pub from-first : {r : S.End} (slots : ℕ) (first : State) → ((g : Program) (e : ℕ) → readSheet s ≡ got g e → stateOf (sizesOf g) first ≡ start g)
-      → r ≡ search (i .budget) (programIn s) slots (stateOf (sizesOf (programIn s)) first ∷ []) unseen 0 → r ≡ searchFrom (programIn s) slots
-  unfolding searchFrom
-  from-first slots first starts found =
-      let a = accepted (readSheet s) h fine in
-      let g = a .0 in
-      let f = index-facts g (a .1) h (a .2) in
-      found
-      ∙ subst (λ (p : Program). search (i .budget) p slots (stateOf (sizesOf p) first ∷ []) unseen 0 ≡ searchFrom p slots) (sym (program-is s g (a .1) (a .2)))
-      (ap (λ (n : ℕ). search n g slots (stateOf (sizesOf g) first ∷ []) unseen 0) (f .budget)
-      ∙ ap (λ (y : S.State). search (g .header .budget) g slots (y ∷ []) unseen 0) (starts g (a .1) (a .2)))

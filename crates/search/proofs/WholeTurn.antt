@@ -2,26 +2,27 @@
 use mathlib.Core.Path.{_≡_, refl, sym, ap, subst, _∙_}
 use mathlib.Core.Bool.{Bool, true, false, not}
 use mathlib.Core.List.{List, [], _∷_}
-use Prim.Native.Nat.{ℕ, zero, suc, _+_, _≤_, _<_, max}
+use Prim.Native.Nat.{ℕ, suc, _≤_, _<_}
 use native.Mathlib.Omega.{arith}
 use borrow.Author.Tests.{lt-ltb, le-ltb}
-use lib.Dec.{ltb, lit<}
+use lib.Dec.{lit<}
 use lib.IntN.{ℤ}
 use lib.ListN.{length, getD}
-use Rattle.rules.specs.Base.{if_then_else_, all}
+use Rattle.rules.specs.Base.{all}
 use Rattle.rules.specs.Constants.{half32, mostThreads, greatestLimit}
 use Rattle.rules.specs.Refusal.{stuck, pastLimit}
 use Rattle.rules.specs.Format.{Bytes}
 use Rattle.rules.specs.Program.{Program}
 use Rattle.rules.specs.Search as S
-use Rattle.rules.specs.Search.{Live, ThreadState, refused, ended, follow, events, greatestLow, greatestHigh, turnBound, waits, turnOf, turn, liveFrom}
+use Rattle.rules.specs.Search.{Live, refused, ended, events, greatestLow, greatestHigh, turnBound, waits, turnOf, turn}
 use Rattle.refusal.specs.declared.Refusal.the-variants.{Stuck, PastLimit}
-use Rattle.state.specs.Access.{zeroThread, threadAt}
+use Rattle.state.specs.Access.{zeroThread}
 use Rattle.state.specs.Cells.{AllTimed}
-use Rattle.state.specs.Shape.{Sizes, threadOf, threadsOf, sizesOf, stateOf}
+use Rattle.state.specs.Shape.{Sizes, threadsOf, sizesOf, stateOf}
 use Rattle.state.specs.declared.State.{State}
 use Rattle.state.specs.declared.Thread.{Thread}
 use Rattle.state.proofs.Shape.{sizes-threads}
+use Rattle.reader.specs.Ticks.{tick}
 use Rattle.search.specs.Plan.{Planned}
 use Rattle.search.specs.Survey.{anyLive, boundOf, Surveys}
 use Rattle.search.specs.Turn.{liveAfter, Makes, Turns, turnedOf}
@@ -29,7 +30,7 @@ use Rattle.search.specs.declared.plan.Plan.{Plan}
 use Rattle.search.specs.declared.survey.Survey.{Survey}
 use Rattle.search.specs.declared.turn.Made.{Made}
 use Rattle.search.specs.declared.turn.Turned.{Turned}
-use Rattle.search.specs.declared.turn.Turned.the-variants.{Refused, Ended, Height}
+use Rattle.search.specs.declared.turn.Turned.the-variants.{Refused, Ended}
 use Rattle.search.proofs.TurnLaws.{turned-makes}
 
 -- the rules' turn, by its tests
@@ -70,7 +71,7 @@ module _ (g : Program) (z : Sizes) (s : State) (slots : ℕ) (b : List ℤ) (h :
   pub turn-ended : not (v .live) ≡ true → Turns z slots b h b (Ended (v .low) (v .high)) (turn g x)
   turn-ended e =
       subst (Turns z slots b h b (Ended (v .low) (v .high))) (sym (turn-is ∙ turn-none g x vs (sym (sv .live-is) ∙ not-true (v .live) e)))
-      (ap (λ (n : ℕ). Ended n (v .high)) (sv .low-is) ∙ ap (λ (n : ℕ). Ended (greatestLow (x .threads)) n) (sv .high-is), refl)
+      (ap (λ (n : ℕ). Ended (tick n) (v .high)) (sv .low-is) ∙ ap (λ (n : ℕ). Ended (tick (greatestLow (x .threads))) (tick n)) (sv .high-is), refl)
     where
       not-true : (t : Bool) → not t ≡ true → t ≡ false
       not-true true q = sym q
@@ -86,21 +87,21 @@ module _ (g : Program) (z : Sizes) (s : State) (slots : ℕ) (b : List ℤ) (h :
   pub turn-stuck : not (v .live) ≡ false → v .waiting ≡ true → Turns z slots b h b (Refused Stuck 0) (turn g x)
   turn-stuck e f = subst (Turns z slots b h b (Refused Stuck 0)) (sym (turn-is ∙ turn-wait g x vs (live-true e) (sym (sv .waiting-is) ∙ f))) (refl, refl)
 
-  pub turn-past : not (v .live) ≡ false → v .waiting ≡ false → (limit : ℕ) → limit ≡ g .header .limit → limit < v .bound → Turns z slots b h b (Refused PastLimit 0) (turn g x)
+  pub turn-past : not (v .live) ≡ false → v .waiting ≡ false → (limit : ℕ) → limit ≡ g .header .limit → limit < v .bound .0 → Turns z slots b h b (Refused PastLimit 0) (turn g x)
   turn-past e f limit q l =
       subst (Turns z slots b h b (Refused PastLimit 0)) (sym (turn-is ∙ turn-limit g x vs (live-true e) (sym (sv .waiting-is) ∙ f) (let a = sv .bound-is in omega arith))) (refl, refl)
 
-  pub turn-follows : not (v .live) ≡ false → v .waiting ≡ false → (limit : ℕ) → limit ≡ g .header .limit → v .bound ≤ limit
-      → (c : List ℤ) (m : Made) (r : Turned) → Makes z slots b h c m (events x (v .low) (v .bound) vs) → r ≡ turnedOf m → Turns z slots b h c r (turn g x)
+  pub turn-follows : not (v .live) ≡ false → v .waiting ≡ false → (limit : ℕ) → limit ≡ g .header .limit → v .bound .0 ≤ limit
+      → (c : List ℤ) (m : Made) (r : Turned) → Makes z slots b h c m (events x (v .low .0) (v .bound .0) vs) → r ≡ turnedOf m → Turns z slots b h c r (turn g x)
   turn-follows e f limit q l c m r k w =
-      let same : turn g x ≡ events x (v .low) (v .bound) vs =
+      let same : turn g x ≡ events x (v .low .0) (v .bound .0) vs =
       turn-is ∙ turn-goes g x vs (live-true e) (sym (sv .waiting-is) ∙ f) (let a = sv .bound-is in omega arith)
-      ∙ ap (λ (n : ℕ). events x n (boundOf vs) vs) (sym (sv .low-is)) ∙ ap (λ (n : ℕ). events x (v .low) n vs) (sym (sv .bound-is)) in
-      subst (λ (u : Turned). Turns z slots b h c u (turn g x)) (sym w) (subst (Turns z slots b h c (turnedOf m)) (sym same) (turned-makes z slots b c h m (events x (v .low) (v .bound) vs) k))
+      ∙ ap (λ (n : ℕ). events x n (boundOf vs) vs) (sym (sv .low-is)) ∙ ap (λ (n : ℕ). events x (v .low .0) n vs) (sym (sv .bound-is)) in
+      subst (λ (u : Turned). Turns z slots b h c u (turn g x)) (sym w) (subst (Turns z slots b h c (turnedOf m)) (sym same) (turned-makes z slots b c h m (events x (v .low .0) (v .bound .0) vs) k))
 
 -- ---- the numbers are small
 
-pub limit-small : (bs : Bytes) (g : Program) (p : Plan) (places : List ℕ) → Planned bs g p places → p .limit < half32
+pub limit-small : (bs : Bytes) (g : Program) (p : Plan) (places : List ℕ) → Planned bs g p places → p .limit .0 < half32
 limit-small bs g p places r = let a = r .limit in let b = r .facts .header .limit-most in let c : greatestLimit < half32 = lit< tt in omega arith
 
 low-of : (ns : List ℕ) (xs : List Thread) → ((t : ℕ) → t < length ns → getD xs t zeroThread .clock .low .0 < half32) → greatestLow (threadsOf ns xs) < half32
@@ -113,7 +114,7 @@ low-of (n ∷ ns) (y ∷ ys) h =
     omega arith
 
 pub low-small : (g : Program) (s : State) → AllTimed s → length (g .threads) ≤ mostThreads → (v : Survey)
-    → Surveys (stateOf (sizesOf g) s .owners) (liveAfter g (stateOf (sizesOf g) s) 0) (stateOf (sizesOf g) s .threads) v → v .low < half32
+    → Surveys (stateOf (sizesOf g) s .owners) (liveAfter g (stateOf (sizesOf g) s) 0) (stateOf (sizesOf g) s .threads) v → v .low .0 < half32
 unfolding stateOf
 low-small g s timed few v sv =
     let n = sizes-threads g in

@@ -29,10 +29,10 @@ namesOf g t = namesIn (length (g .vars)) (g .locks) (threadIn g t)
 -- f is the statement x, at which a thread with number `at` stands
 pub record Fetches (s : Bytes) (ns : Names) (at : ℕ) (x : Statement) (f : Fetched) : Type 0 where
   pub place : f .place ≡ x .place
-  pub least : f .least ≡ x .least
-  pub greatest : f .greatest ≡ x .greatest
-  pub least-small : f .least < 65536
-  pub greatest-small : f .greatest < 65536
+  pub least : f .least .0 ≡ x .least
+  pub greatest : f .greatest .0 ≡ x .greatest
+  pub least-small : f .least .0 < 65536
+  pub greatest-small : f .greatest .0 < 65536
   pub action : f .action ≡ actionOf (x .place + 9) (bodyEnd s (x .place)) (x .action)
   pub named : Named ns (x .action)
   pub targets : Targets mostStatements (x .action)

@@ -6,3 +6,4 @@ pub mod Act
 pub mod Survey
 pub mod Turn
 pub mod Run
+pub mod Whole

@@ -4,7 +4,7 @@ use mathlib.Core.List.{List, []}
 use Prim.Native.Nat.{ℕ, _+_, _*_, _<_}
 use lib.ListN.{length, getD}
 use Rattle.rules.specs.Constants.{mostStatements}
-use Rattle.rules.specs.Program.{Header, Program}
+use Rattle.rules.specs.Program.{Program}
 use Rattle.rules.specs.Format.{Bytes, Got, bad, got, readSheet}
 use Rattle.reader.specs.Index.{noEntry, entryOf}
 use Rattle.reader.specs.Facts.{threadIn, statementIn, ProgramFacts}
@@ -22,7 +22,7 @@ programIn s = programOf (readSheet s)
 pub record Planned (s : Bytes) (g : Program) (p : Plan) (places : List ℕ) : Type 0 where
   pub facts : ProgramFacts s g
   pub threads : p .threads ≡ length (g .threads)
-  pub limit : p .limit ≡ g .header .limit
+  pub limit : p .limit .0 ≡ g .header .limit
   pub entries : (t : ℕ) → t < length (g .threads) → getD (p .entries) t noEntry ≡ entryOf (threadIn g t)
   pub places-are : (t k : ℕ) → t < length (g .threads) → k < length (threadIn g t .statements)
       → getD places (t * mostStatements + k) 0 ≡ statementIn g t k .place

@@ -1,6 +1,4 @@
 -- How the code's search ends, in the rules.
-use mathlib.Core.Bool.{Bool, true, false}
-use Prim.Native.Nat.{ℕ}
 use Rattle.rules.specs.Base.{if_then_else_}
 use Rattle.rules.specs.Search as S
 use Rattle.rules.specs.Search.{unseen, seen, fails, finds}
@@ -10,7 +8,7 @@ use Rattle.search.specs.declared.run.Outcome.{Outcome}
 use Rattle.search.specs.declared.run.Outcome.the-variants.{Fails, Finds}
 
 abbrev pub windowOf : Window → S.Window
-windowOf w = if w .seen then seen (w .low) (w .high) else unseen
+windowOf w = if w .seen then seen (w .low .0) (w .high .0) else unseen
 
 abbrev pub endOf : Outcome → S.End
 endOf (Fails r p n) = fails (ruleOf r) p n

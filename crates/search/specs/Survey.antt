@@ -12,6 +12,8 @@ use Rattle.rules.specs.Program.{isHalt, Program}
 use Rattle.rules.specs.Search.{ThreadState, Live, greatestLow, greatestHigh, turnBound, waits}
 use Rattle.reader.specs.declared.decoding.Action.{Action}
 use Rattle.reader.specs.declared.decoding.Action.the-variants.{Halt, Skip, Assign, Branch, Store, Load, Unlock, Lock}
+use Rattle.reader.specs.declared.ticks.Time.{Time}
+use Rattle.reader.specs.Ticks.{tick}
 use Rattle.reader.specs.Facts.{statementIn}
 use Rattle.state.specs.declared.Clock.{Clock}
 use Rattle.state.specs.declared.State.{State}
@@ -33,9 +35,9 @@ boundOf (v ∷ vs) = turnBound v vs
 pub record Surveys (os : List Owner) (vs : List Live) (xs : List ThreadState) (a : Survey) : Type 0 where
   pub live-is : a .live ≡ anyLive vs
   pub waiting-is : a .waiting ≡ all (waits os) vs
-  pub bound-is : a .bound ≡ boundOf vs
-  pub low-is : a .low ≡ greatestLow xs
-  pub high-is : a .high ≡ greatestHigh xs
+  pub bound-is : a .bound .0 ≡ boundOf vs
+  pub low-is : a .low .0 ≡ greatestLow xs
+  pub high-is : a .high .0 ≡ greatestHigh xs
 
 -- ---- what the code adds for one thread
 
@@ -61,22 +63,22 @@ waitsAt t (Load r v) os = false
 waitsAt t (Unlock l) os = false
 waitsAt t (Lock l) os = not (mayTake t (ownerOf (getD os l 0)))
 
-abbrev pub addLive : Survey → ℕ → Bool → Survey
+abbrev pub addLive : Survey → Time → Bool → Survey
 addLive a due waits = record {
   live = true;
   waiting = waits && a .waiting;
-  bound = if a .live then min due (a .bound) else due;
+  bound = if a .live then tick (min (due .0) (a .bound .0)) else due;
   low = a .low;
   high = a .high;
 }
 
-abbrev pub addClock : Survey → ℕ → ℕ → Survey
-addClock a low high = record { live = a .live; waiting = a .waiting; bound = a .bound; low = max low (a .low); high = max high (a .high) }
+abbrev pub addClock : Survey → Time → Time → Survey
+addClock a low high = record { live = a .live; waiting = a .waiting; bound = a .bound; low = tick (max (low .0) (a .low .0)); high = tick (max (high .0) (a .high .0)) }
 
 unfoldable pub addThread : Survey → ℕ → Clock → Fetched → List ℕ → Survey
 addThread a t x f os =
-    let b = addClock a (x .low .0) (x .high .0) in
-    if halts (f .action) then b else addLive b (x .high .0 + f .greatest) (waitsAt t (f .action) os)
+    let b = addClock a (x .low) (x .high) in
+    if halts (f .action) then b else addLive b (tick (x .high .0 + f .greatest .0)) (waitsAt t (f .action) os)
 
 -- ---- the earliest tick of a thread's event: past every bound for one that halts
 
@@ -92,6 +94,6 @@ earliestAt g s t =
     let x = statementIn g t (threadAt s t .at) in
     earliestOf (isHalt (x .action)) (threadAt s t .clock .low .0) (x .least)
 
--- what a row of four numbers says of the threads from number t on
-abbrev pub EarliestFrom : Program → State → ℕ → List ℕ → Type 0
-EarliestFrom g s t ticks = (k : ℕ) → t ≤ k → k < length (g .threads) → getD ticks k 0 ≡ earliestAt g s k
+-- what a row of four ticks says of the threads from number t on
+abbrev pub EarliestFrom : Program → State → ℕ → List Time → Type 0
+EarliestFrom g s t ticks = (k : ℕ) → t ≤ k → k < length (g .threads) → getD ticks k (tick 0) .0 ≡ earliestAt g s k

@@ -1,7 +1,7 @@
 -- What the events of some threads, and a whole turn, give.
 use mathlib.Core.Path.{_≡_}
-use mathlib.Core.List.{List, []}
-use Prim.Native.Nat.{ℕ, _+_}
+use mathlib.Core.List.{List}
+use Prim.Native.Nat.{ℕ}
 use lib.ListN.{length, drop}
 use lib.IntN.{ℤ}
 use Rattle.rules.specs.Program.{Program}
@@ -10,6 +10,7 @@ use Rattle.rules.specs.Search.{Live, refused, ended, follow, liveFrom, events}
 use Rattle.refusal.specs.Shape.{refusalOf}
 use Rattle.state.specs.Shape.{Sizes}
 use Rattle.search.specs.Push.{Pushed}
+use Rattle.reader.specs.Ticks.{tick}
 use Rattle.search.specs.declared.act.Event.{Event}
 use Rattle.search.specs.declared.act.Acted.{Acted}
 use Rattle.search.specs.declared.act.Acted.the-variants as acted
@@ -35,7 +36,7 @@ heightOf (Height k) h = k
 
 abbrev pub Turns : Sizes → ℕ → List ℤ → ℕ → List ℤ → Turned → S.Turn → Type 0
 Turns z slots b h c m (refused r p) = (m ≡ turned.Refused (refusalOf r) p) × (length c ≡ length b)
-Turns z slots b h c m (ended x y) = (m ≡ turned.Ended x y) × (c ≡ b)
+Turns z slots b h c m (ended x y) = (m ≡ turned.Ended (tick x) (tick y)) × (c ≡ b)
 Turns z slots b h c m (follow xs) = (k : ℕ) × (m ≡ turned.Height k) × Pushed z slots b c h k xs
 
 -- what the event of a thread at a place makes of what the later threads made

@@ -1,7 +1,8 @@
 // The event of one thread: the states that follow go on the stack, the first made uppermost.
 use crate::fetch::Fetched;
+use crate::locking::lock;
+use crate::locking::unlock;
 use crate::push::push_moved;
-use crate::push::push_owner;
 use crate::push::push_register;
 use crate::push::push_registers;
 use crate::push::push_variable;
@@ -10,30 +11,28 @@ use expression::assigned_value;
 use expression::branch_on;
 use interval::Reading;
 use interval::Span;
+use reader::Time;
 use reader::decoding::Action;
 use refusal::Refusal;
-use state::Time;
+use state::NUMBERS_PER_STATE;
 use state::at_of;
-use state::owner_of;
 use state::register_of;
 use state::registers_of;
 use state::variable_of;
 ghost use mathlib.Core.Path.{_≡_};
-ghost use mathlib.Core.Bool.{true};
 ghost use mathlib.Core.List.{[], _∷_};
 ghost use Prim.Native.Nat.{suc, _+_, _≤_, _<_};
 ghost use lib.ListN.{length, getD, set};
-ghost use Rattle.rules.specs.Constants.{deepest, mostThreads, mostStatements, mostRegisters, mostVariables, mostLocks};
+ghost use Rattle.rules.specs.Constants.{deepest, mostStatements, mostRegisters, mostVariables};
 ghost use Rattle.rules.specs.Program as P;
 ghost use Rattle.rules.specs.Program.{Statement};
-ghost use Rattle.rules.specs.Lock.{mayTake, afterUnlock};
 ghost use Rattle.rules.specs.Format.{got, readArith, readCondition};
 ghost use Rattle.rules.specs.Search.{effect, unlessEmpty};
 ghost use Rattle.interval.specs.Shape.{intervalOf};
 ghost use Rattle.expression.specs.Evaluation.{regsOf};
 ghost use Rattle.expression.specs.Comparison.{unlessFlagged};
 ghost use Rattle.search.specs.declared.act.Acted.the-variants as Acted;
-ghost use Rattle.state.specs.Shape.{Sizes, ownerOf, threadOf, sizesOf, stateOf};
+ghost use Rattle.state.specs.Shape.{Sizes, threadOf, sizesOf, stateOf};
 ghost use Rattle.state.specs.Access.{threadAt};
 ghost use Rattle.state.specs.Cells.{decode};
 ghost use Rattle.search.specs.Plan.{programIn};
@@ -42,27 +41,33 @@ ghost use Rattle.search.specs.Push.{Pushed};
 ghost use Rattle.search.specs.Act.{Asks, OfProgram, Acts, movedBy};
 
 // An event of thread t, which has n registers, between two ticks.
-pub struct Event {
+pub(crate) struct Event {
     pub thread: usize,
     pub registers: usize,
     pub from: Time,
     pub to: Time,
 }
 
-pub enum Acted {
+pub(crate) enum Acted {
     Fault(Refusal),
     Height(usize),
 }
 
 // The number of the next statement.
-fn next(at: u8) -> u8
+pub(crate) fn next(at: u8) -> u8
     requires { ⌜ at < mostStatements ⌝ }
     ensures { λ r. ⌜ r ≡ suc at ⌝ }
 {
     at + 1
 }
 
-fn skip(cells: &[i32; 100], v: Event, work: &mut [i32], height: usize, slots: usize) -> usize
+fn skip(
+    cells: &[i32; NUMBERS_PER_STATE],
+    v: Event,
+    work: &mut [i32],
+    height: usize,
+    slots: usize,
+) -> usize
     requires { ⌜ Asks v (now work) height slots × (threadAt (decode (now cells)) (v .thread) .at < mostStatements) ⌝ }
     ensures { λ k. ⌜ ((z : Sizes) → Pushed z slots (now (work .entry)) (now (work .exit)) height k
         (movedBy z (decode (now (cells .entry))) v (suc (threadAt (decode (now (cells .entry))) (v .thread) .at)) (regsOf (getD (z .regs) (v .thread) 0) (threadAt (decode (now (cells .entry))) (v .thread) .regs)) ∷ [])) ⌝ }
@@ -72,7 +77,7 @@ fn skip(cells: &[i32; 100], v: Event, work: &mut [i32], height: usize, slots: us
 }
 
 fn write_register(
-    cells: &[i32; 100],
+    cells: &[i32; NUMBERS_PER_STATE],
     v: Event,
     r: usize,
     i: Span,
@@ -90,7 +95,7 @@ fn write_register(
 
 fn assign(
     sheet: &[u8],
-    cells: &[i32; 100],
+    cells: &[i32; NUMBERS_PER_STATE],
     v: Event,
     r: usize,
     at: usize,
@@ -118,7 +123,7 @@ fn assign(
 
 // One way of a branch, left out where it is empty.
 fn way(
-    cells: &[i32; 100],
+    cells: &[i32; NUMBERS_PER_STATE],
     v: Event,
     at: u8,
     empty: bool,
@@ -140,7 +145,7 @@ fn way(
 // The no state first, so that the yes state stands above it.
 fn branch(
     sheet: &[u8],
-    cells: &[i32; 100],
+    cells: &[i32; NUMBERS_PER_STATE],
     v: Event,
     target: usize,
     at: usize,
@@ -176,7 +181,7 @@ fn branch(
 }
 
 fn store(
-    cells: &[i32; 100],
+    cells: &[i32; NUMBERS_PER_STATE],
     v: Event,
     r: usize,
     k: usize,
@@ -196,7 +201,7 @@ fn store(
 }
 
 fn load(
-    cells: &[i32; 100],
+    cells: &[i32; NUMBERS_PER_STATE],
     v: Event,
     r: usize,
     k: usize,
@@ -213,78 +218,9 @@ fn load(
     write_register(cells, v, r, i, work, height, slots)
 }
 
-// How a lock's cell names thread t.
-fn owner(t: usize) -> u8
-    requires { ⌜ t < mostThreads ⌝ }
-    ensures { λ r. ⌜ r ≡ suc t ⌝ }
-{
-    (t + 1) as u8
-}
-
-// A lock is free, or the thread owns it already.
-pub(crate) fn may_take(t: usize, o: u8) -> bool
-    requires { ⌜ t < mostThreads ⌝ }
-    ensures { λ r. ⌜ r ≡ mayTake t (ownerOf o) ⌝ }
-{
-    if o == 0 {
-        return true;
-    }
-    o == owner(t)
-}
-
-fn after_unlock(t: usize, o: u8) -> u8
-    requires { ⌜ t < mostThreads ⌝ }
-    ensures { λ r. ⌜ ownerOf r ≡ afterUnlock t (ownerOf o) ⌝ }
-{
-    if o == owner(t) {
-        return 0;
-    }
-    o
-}
-
-fn unlock(
-    cells: &[i32; 100],
-    v: Event,
-    l: usize,
-    work: &mut [i32],
-    height: usize,
-    slots: usize,
-) -> usize
-    requires { ⌜ Asks v (now work) height slots × ((threadAt (decode (now cells)) (v .thread) .at < mostStatements) × (l < mostLocks)) ⌝ }
-    ensures { λ h. ⌜ ((z : Sizes) → l < z .locks
-        → Acts z slots (now (work .entry)) (now (work .exit)) height (Acted.Height h)
-        (effect (stateOf z (decode (now (cells .entry)))) (v .thread) (threadOf (getD (z .regs) (v .thread) 0) (threadAt (decode (now (cells .entry))) (v .thread))) (v .from .0) (v .to .0) (P.unlock l))) ⌝ }
-{
-    let t = v.thread;
-    let o = after_unlock(t, owner_of(cells, l));
-    let on = next(at_of(cells, t));
-    push_owner(cells, v, on, l, o, work, height, slots)
-}
-
-fn lock(
-    cells: &[i32; 100],
-    v: Event,
-    l: usize,
-    work: &mut [i32],
-    height: usize,
-    slots: usize,
-) -> usize
-    requires { ⌜ Asks v (now work) height slots × ((threadAt (decode (now cells)) (v .thread) .at < mostStatements) × (l < mostLocks)) ⌝ }
-    ensures { λ h. ⌜ ((z : Sizes) → l < z .locks
-        → Acts z slots (now (work .entry)) (now (work .exit)) height (Acted.Height h)
-        (effect (stateOf z (decode (now (cells .entry)))) (v .thread) (threadOf (getD (z .regs) (v .thread) 0) (threadAt (decode (now (cells .entry))) (v .thread))) (v .from .0) (v .to .0) (P.lock l))) ⌝ }
-{
-    let t = v.thread;
-    let at = at_of(cells, t);
-    if may_take(t, owner_of(cells, l)) {
-        return push_owner(cells, v, next(at), l, owner(t), work, height, slots);
-    }
-    push_moved(cells, v, at, work, height, slots)
-}
-
 pub(crate) fn act(
     sheet: &[u8],
-    cells: &[i32; 100],
+    cells: &[i32; NUMBERS_PER_STATE],
     v: Event,
     f: Fetched,
     work: &mut [i32],

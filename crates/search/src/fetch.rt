@@ -1,9 +1,11 @@
 // The statement at which a thread stands.
 use crate::plan::Plan;
+use reader::MOST_PLACES;
+use reader::MOST_STATEMENTS;
+use reader::Time;
 use reader::decoding::Action;
 use reader::decoding::statement_at;
 ghost use mathlib.Core.Path.{_≡_};
-ghost use mathlib.Core.Bool.{false};
 ghost use Prim.Native.Nat.{ℕ, _+_, _≤_, _<_};
 ghost use lib.ListN.{length};
 ghost use Rattle.rules.specs.Constants.{mostStatements};
@@ -13,10 +15,10 @@ ghost use Rattle.reader.specs.Facts.{statementIn, StatementFacts, Targets};
 ghost use Rattle.search.specs.Plan.{programIn, Ready};
 ghost use Rattle.search.specs.Fetch.{halts, namesOf, Fetches};
 
-pub struct Fetched {
+pub(crate) struct Fetched {
     pub place: usize,
-    pub least: u32,
-    pub greatest: u32,
+    pub least: Time,
+    pub greatest: Time,
     pub action: Action,
 }
 
@@ -27,8 +29,8 @@ fn none() -> Fetched
     let halt = Action::Halt;
     Fetched {
         place: 0,
-        least: 0,
-        greatest: 0,
+        least: Time(0),
+        greatest: Time(0),
         action: halt,
     }
 }
@@ -39,17 +41,25 @@ fn fetch_at(sheet: &[u8], place: usize) -> Fetched
         → Targets mostStatements (x .action) → Fetches (now (sheet .entry)) ns at x r) ⌝ }
 {
     let x = statement_at(sheet, place);
+    let least = x.least;
+    let greatest = x.greatest;
     let action = x.action;
     Fetched {
         place: place,
-        least: x.least,
-        greatest: x.greatest,
+        least: least,
+        greatest: greatest,
         action: action,
     }
 }
 
 // Statement `at` of thread t.
-pub(crate) fn fetch(sheet: &[u8], places: &[u16; 256], plan: Plan, t: usize, at: u8) -> Fetched
+pub(crate) fn fetch(
+    sheet: &[u8],
+    places: &[u16; MOST_PLACES],
+    plan: Plan,
+    t: usize,
+    at: u8,
+) -> Fetched
     requires { ⌜ Ready (now sheet) plan (now places) × (t < length (programIn (now sheet) .threads)) ⌝ }
     ensures { λ r. ⌜ Fetches (now (sheet .entry)) (namesOf (programIn (now (sheet .entry))) t) at (statementIn (programIn (now (sheet .entry))) t at) r ⌝ }
 {
@@ -59,12 +69,12 @@ pub(crate) fn fetch(sheet: &[u8], places: &[u16; 256], plan: Plan, t: usize, at:
     if count <= k {
         return none();
     }
-    let i = t * 64 + k;
+    let i = t * MOST_STATEMENTS + k;
     let place = places[i] as usize;
     fetch_at(sheet, place)
 }
 
-pub fn is_halt(action: Action) -> bool
+pub(crate) fn is_halt(action: Action) -> bool
     ensures { λ r. ⌜ r ≡ halts action ⌝ }
 {
     match action {

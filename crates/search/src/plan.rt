@@ -1,8 +1,10 @@
 // What a search keeps of the index, beside the table of places.
+use reader::MOST_THREADS;
+use reader::Time;
 use reader::threads::ThreadEntry;
 
-pub struct Plan {
+pub(crate) struct Plan {
     pub threads: usize,
-    pub limit: u32,
-    pub entries: [ThreadEntry; 4],
+    pub limit: Time,
+    pub entries: [ThreadEntry; MOST_THREADS],
 }

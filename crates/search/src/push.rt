@@ -64,7 +64,7 @@ fn moving(v: Event, at: u8) -> Move
 }
 
 pub(crate) fn push_moved(
-    cells: &[i32; 100],
+    cells: &[i32; NUMBERS_PER_STATE],
     v: Event,
     at: u8,
     work: &mut [i32],
@@ -82,7 +82,7 @@ pub(crate) fn push_moved(
 }
 
 pub(crate) fn push_register(
-    cells: &[i32; 100],
+    cells: &[i32; NUMBERS_PER_STATE],
     v: Event,
     at: u8,
     r: usize,
@@ -102,7 +102,7 @@ pub(crate) fn push_register(
 }
 
 pub(crate) fn push_registers(
-    cells: &[i32; 100],
+    cells: &[i32; NUMBERS_PER_STATE],
     v: Event,
     at: u8,
     regs: [Span; 8],
@@ -121,7 +121,7 @@ pub(crate) fn push_registers(
 }
 
 pub(crate) fn push_variable(
-    cells: &[i32; 100],
+    cells: &[i32; NUMBERS_PER_STATE],
     v: Event,
     at: u8,
     x: usize,
@@ -141,7 +141,7 @@ pub(crate) fn push_variable(
 }
 
 pub(crate) fn push_owner(
-    cells: &[i32; 100],
+    cells: &[i32; NUMBERS_PER_STATE],
     v: Event,
     at: u8,
     l: usize,

@@ -1,24 +1,20 @@
 // The loop over the stack.
 use crate::plan::Plan;
-use crate::survey::greater;
-use crate::survey::lesser;
+use crate::survey::earlier_tick;
+use crate::survey::later_tick;
 use crate::turn::Turned;
 use crate::turn::turn;
-use reader::Index;
+use reader::MOST_PLACES;
+use reader::Time;
 use refusal::Refusal;
 use state::State;
-use state::start;
 use state::store;
 use state::take_slot;
 ghost use mathlib.Core.Path.{_≡_};
-ghost use mathlib.Core.Bool.{true, false};
 ghost use mathlib.Core.List.{[], _∷_};
-ghost use Prim.Native.Nat.{_+_, _<_};
 ghost use lib.ListN.{length};
 ghost use Rattle.rules.specs.Search as S;
-ghost use Rattle.rules.specs.Format.{readSheet};
-ghost use Rattle.rules.specs.Search.{unseen, searchFrom};
-ghost use Rattle.reader.specs.Index.{indexOf};
+ghost use Rattle.rules.specs.Search.{unseen};
 ghost use Rattle.state.specs.Shape.{sizesOf, stateOf};
 ghost use Rattle.state.specs.Cells.{AllTimed};
 ghost use Rattle.search.specs.Plan.{programIn, Ready};
@@ -28,18 +24,18 @@ ghost use Rattle.search.specs.Run.{windowOf, endOf};
 // The window found so far.
 pub struct Window {
     pub seen: bool,
-    pub low: u32,
-    pub high: u32,
+    pub low: Time,
+    pub high: Time,
 }
 
-fn widen(w: Window, low: u32, high: u32) -> Window
-    ensures { λ r. ⌜ windowOf r ≡ S.widen (windowOf w) low high ⌝ }
+fn widen(w: Window, low: Time, high: Time) -> Window
+    ensures { λ r. ⌜ windowOf r ≡ S.widen (windowOf w) (low .0) (high .0) ⌝ }
 {
     if w.seen {
         return Window {
             seen: true,
-            low: lesser(w.low, low),
-            high: greater(w.high, high),
+            low: earlier_tick(w.low, low),
+            high: later_tick(w.high, high),
         };
     }
     Window {
@@ -55,9 +51,9 @@ pub enum Outcome {
     Finds(u32, Window),
 }
 
-fn search(
+pub(crate) fn search(
     sheet: &[u8],
-    places: &[u16; 256],
+    places: &[u16; MOST_PLACES],
     plan: Plan,
     first: State,
     budget: u32,
@@ -73,8 +69,8 @@ fn search(
     let mut steps: u32 = 0;
     let mut w = Window {
         seen: false,
-        low: 0,
-        high: 0,
+        low: Time(0),
+        high: Time(0),
     };
     while 0 < height {
         if steps == budget {
@@ -99,21 +95,4 @@ fn search(
         }
     }
     Outcome::Finds(steps, w)
-}
-
-// The search of a sheet that reads, with its index: from its starting state, on a stack of so many slots.
-pub fn search_sheet(sheet: &[u8], index: Index, work: &mut [i32], slots: usize) -> Outcome
-    requires { ⌜ (index ≡ indexOf (readSheet (now sheet))) × ((index .refusal ≡ 0) × Room slots (now work)) ⌝ }
-    ensures { λ r. ⌜ endOf r ≡ searchFrom (programIn (now (sheet .entry))) slots ⌝ }
-    ensures { λ r. ⌜ length (now (work .exit)) ≡ length (now (work .entry)) ⌝ }
-{
-    let first = start(sheet, index);
-    let places = index.places;
-    let entries = index.entries;
-    let plan = Plan {
-        threads: index.threads,
-        limit: index.limit,
-        entries: entries,
-    };
-    search(sheet, &places, plan, first, index.budget, work, slots)
 }

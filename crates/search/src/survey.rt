@@ -1,16 +1,19 @@
 // The threads of a state at the beginning of a turn, from the last to the first.
-use crate::act::may_take;
 use crate::fetch::Fetched;
 use crate::fetch::fetch;
 use crate::fetch::is_halt;
+use crate::locking::may_take;
 use crate::plan::Plan;
+use reader::MOST_PLACES;
+use reader::MOST_THREADS;
+use reader::Time;
 use reader::decoding::Action;
 use state::Clock;
+use state::NUMBERS_PER_STATE;
 use state::at_of;
 use state::clock_of;
 use state::owner_of;
 ghost use mathlib.Core.Path.{_≡_};
-ghost use mathlib.Core.Bool.{true, false, _&&_};
 ghost use Prim.Native.Nat.{_+_, _<_, min, max};
 ghost use Rattle.rules.specs.Constants.{half32, mostThreads};
 ghost use Rattle.state.specs.Shape.{sizesOf, stateOf};
@@ -22,37 +25,46 @@ ghost use Rattle.search.specs.Turn.{liveAfter};
 
 // Whether some thread is live; whether every live one waits for a lock; the turn's bound, where some thread is live; the
 // greatest clock low and high.
-pub struct Survey {
+pub(crate) struct Survey {
     pub live: bool,
     pub waiting: bool,
-    pub bound: u32,
-    pub low: u32,
-    pub high: u32,
+    pub bound: Time,
+    pub low: Time,
+    pub high: Time,
 }
 
 // The survey of a state's threads, and of each thread the earliest tick of its event.
-pub struct Threads {
+pub(crate) struct Threads {
     pub survey: Survey,
-    pub earliest: [u32; 4],
+    pub earliest: [Time; MOST_THREADS],
 }
 
 // Past every bound: a thread that halts has no event.
-const NEVER: u32 = 4294967295;
+const NEVER: Time = Time(4294967295);
 
-pub fn greater(a: u32, b: u32) -> u32
-    ensures { λ r. ⌜ r ≡ max a b ⌝ }
+// The later of two ticks, and the earlier.
+pub(crate) fn later_tick(a: Time, b: Time) -> Time
+    ensures { λ r. ⌜ r .0 ≡ max (a .0) (b .0) ⌝ }
 {
-    if a < b { b } else { a }
+    if a.0 < b.0 { b } else { a }
 }
 
-pub fn lesser(a: u32, b: u32) -> u32
-    ensures { λ r. ⌜ r ≡ min a b ⌝ }
+pub(crate) fn earlier_tick(a: Time, b: Time) -> Time
+    ensures { λ r. ⌜ r .0 ≡ min (a .0) (b .0) ⌝ }
 {
-    if a < b { a } else { b }
+    if a.0 < b.0 { a } else { b }
+}
+
+// The tick so many ticks after a clock's.
+fn tick_after(clock: Time, ticks: Time) -> Time
+    requires { ⌜ (clock .0 < half32) × (ticks .0 < 65536) ⌝ }
+    ensures { λ r. ⌜ r .0 ≡ clock .0 + ticks .0 ⌝ }
+{
+    Time(clock.0 + ticks.0)
 }
 
 // Thread t stands at a lock that another owns.
-fn waits(t: usize, action: Action, cells: &[i32; 100]) -> bool
+fn waits(t: usize, action: Action, cells: &[i32; NUMBERS_PER_STATE]) -> bool
     requires { ⌜ (t < mostThreads) × LockThere action ⌝ }
     ensures { λ r. ⌜ r ≡ waitsAt t action (decode (now (cells .entry)) .owners) ⌝ }
 {
@@ -66,64 +78,79 @@ fn waits(t: usize, action: Action, cells: &[i32; 100]) -> bool
 }
 
 // One more live thread: its last tick, and whether it waits.
-fn with_live(a: Survey, due: u32, waits: bool) -> Survey
+fn with_live(a: Survey, due: Time, waits: bool) -> Survey
     ensures { λ r. ⌜ r ≡ addLive a due waits ⌝ }
 {
-    let bound = if a.live { lesser(due, a.bound) } else { due };
+    let low = a.low;
+    let high = a.high;
+    let bound = if a.live {
+        earlier_tick(due, a.bound)
+    } else {
+        due
+    };
     Survey {
         live: true,
         waiting: waits && a.waiting,
         bound: bound,
-        low: a.low,
-        high: a.high,
+        low: low,
+        high: high,
     }
 }
 
-fn with_clock(a: Survey, low: u32, high: u32) -> Survey
+fn with_clock(a: Survey, low: Time, high: Time) -> Survey
     ensures { λ r. ⌜ r ≡ addClock a low high ⌝ }
 {
+    let bound = a.bound;
+    let l = later_tick(low, a.low);
+    let h = later_tick(high, a.high);
     Survey {
         live: a.live,
         waiting: a.waiting,
-        bound: a.bound,
-        low: greater(low, a.low),
-        high: greater(high, a.high),
+        bound: bound,
+        low: l,
+        high: h,
     }
 }
 
 // One more thread.
-fn with_thread(a: Survey, t: usize, clock: Clock, f: Fetched, cells: &[i32; 100]) -> Survey
-    requires { ⌜ (t < mostThreads) × ((clock .high .0 < half32) × ((f .greatest < 65536) × LockThere (f .action))) ⌝ }
+fn with_thread(
+    a: Survey,
+    t: usize,
+    clock: Clock,
+    f: Fetched,
+    cells: &[i32; NUMBERS_PER_STATE],
+) -> Survey
+    requires { ⌜ (t < mostThreads) × ((clock .high .0 < half32) × ((f .greatest .0 < 65536) × LockThere (f .action))) ⌝ }
     ensures { λ r. ⌜ r ≡ addThread a t clock f (decode (now (cells .entry)) .owners) ⌝ }
 {
-    let low = clock.low.0;
-    let high = clock.high.0;
+    let low = clock.low;
+    let high = clock.high;
     let b = with_clock(a, low, high);
     let action = f.action;
     if is_halt(action) {
         return b;
     }
-    let due = high + f.greatest;
+    let due = tick_after(high, f.greatest);
     let w = waits(t, action, cells);
     with_live(b, due, w)
 }
 
-fn earliest_tick(clock: Clock, f: Fetched) -> u32
-    requires { ⌜ (clock .low .0 < half32) × (f .least < 65536) ⌝ }
-    ensures { λ r. ⌜ r ≡ earliestOf (halts (f .action)) (clock .low .0) (f .least) ⌝ }
+fn earliest_tick(clock: Clock, f: Fetched) -> Time
+    requires { ⌜ (clock .low .0 < half32) × (f .least .0 < 65536) ⌝ }
+    ensures { λ r. ⌜ r .0 ≡ earliestOf (halts (f .action)) (clock .low .0) (f .least .0) ⌝ }
 {
     let action = f.action;
     if is_halt(action) {
         return NEVER;
     }
-    clock.low.0 + f.least
+    tick_after(clock.low, f.least)
 }
 
 pub(crate) fn survey_threads(
     sheet: &[u8],
-    places: &[u16; 256],
+    places: &[u16; MOST_PLACES],
     plan: Plan,
-    cells: &[i32; 100],
+    cells: &[i32; NUMBERS_PER_STATE],
 ) -> Threads
     requires { ⌜ Ready (now sheet) plan (now places) ⌝ }
     ensures { λ r. ⌜ Surveys (stateOf (sizesOf (programIn (now (sheet .entry)))) (decode (now (cells .entry))) .owners) (liveAfter (programIn (now (sheet .entry))) (stateOf (sizesOf (programIn (now (sheet .entry)))) (decode (now (cells .entry)))) 0)
@@ -133,11 +160,11 @@ pub(crate) fn survey_threads(
     let mut a = Survey {
         live: false,
         waiting: true,
-        bound: 0,
-        low: 0,
-        high: 0,
+        bound: Time(0),
+        low: Time(0),
+        high: Time(0),
     };
-    let mut earliest: [u32; 4] = [NEVER; 4];
+    let mut earliest: [Time; MOST_THREADS] = [NEVER; MOST_THREADS];
     let mut t = plan.threads;
     while 0 < t {
         t -= 1;

@@ -4,10 +4,13 @@ use crate::act::Event;
 use crate::act::act;
 use crate::fetch::fetch;
 use crate::plan::Plan;
-use crate::survey::greater;
+use crate::survey::later_tick;
 use crate::survey::survey_threads;
+use reader::MOST_PLACES;
+use reader::MOST_THREADS;
+use reader::Time;
 use refusal::Refusal;
-use state::Time;
+use state::NUMBERS_PER_STATE;
 use state::at_of;
 ghost use mathlib.Core.Path.{_≡_};
 ghost use mathlib.Core.List.{List};
@@ -26,7 +29,7 @@ ghost use Rattle.search.specs.Survey.{earliestAt, EarliestFrom};
 ghost use Rattle.search.specs.Turn.{liveAfter, Makes, heightOf, Turns, overOf, eventOf, turnedOf};
 
 // What the events of the last threads made: the new height, or the fault of the first of them that has one.
-pub enum Made {
+enum Made {
     Fault(Refusal, usize),
     Height(usize),
 }
@@ -45,45 +48,43 @@ fn over(later: Made, r: Acted, place: usize) -> Made
 }
 
 // The event of thread t between two ticks.
-fn event(plan: Plan, t: usize, from: u32, to: u32) -> Event
+fn event(plan: Plan, t: usize, from: Time, to: Time) -> Event
     requires { ⌜ t < mostThreads ⌝ }
-    ensures { λ v. ⌜ v ≡ eventOf (getD (plan .entries) t noEntry .registers) t from to ⌝ }
+    ensures { λ v. ⌜ v ≡ eventOf (getD (plan .entries) t noEntry .registers) t (from .0) (to .0) ⌝ }
 {
     let entry = plan.entries[t];
     let n = entry.registers as usize;
-    let low = Time(from);
-    let high = Time(to);
     Event {
         thread: t,
         registers: n,
-        from: low,
-        to: high,
+        from: from,
+        to: to,
     }
 }
 
 // The event of thread t before what the later threads made.
 fn before(
     sheet: &[u8],
-    places: &[u16; 256],
+    places: &[u16; MOST_PLACES],
     plan: Plan,
-    cells: &[i32; 100],
+    cells: &[i32; NUMBERS_PER_STATE],
     t: usize,
-    latest: u32,
-    earliest: u32,
-    bound: u32,
+    latest: Time,
+    earliest: Time,
+    bound: Time,
     later: Made,
     work: &mut [i32],
     height: usize,
     slots: usize,
 ) -> Made
-    requires { ⌜ Ready (now sheet) plan (now places) × ((t < length (programIn (now sheet) .threads)) × ((earliest ≡ earliestAt (programIn (now sheet)) (decode (now cells)) t) × ((bound < half32) × ((latest < half32) × (Room slots (now work) × (height ≤ slots + 1)))))) ⌝ }
+    requires { ⌜ Ready (now sheet) plan (now places) × ((t < length (programIn (now sheet) .threads)) × ((earliest .0 ≡ earliestAt (programIn (now sheet)) (decode (now cells)) t) × ((bound .0 < half32) × ((latest .0 < half32) × (Room slots (now work) × (height ≤ slots + 1)))))) ⌝ }
     ensures { λ r. ⌜ ((b : List ℤ) (h : ℕ) → height ≡ heightOf later h
-        → Makes (sizesOf (programIn (now (sheet .entry)))) slots b h (now (work .entry)) later (events (stateOf (sizesOf (programIn (now (sheet .entry)))) (decode (now (cells .entry)))) latest bound (liveAfter (programIn (now (sheet .entry))) (stateOf (sizesOf (programIn (now (sheet .entry)))) (decode (now (cells .entry)))) (suc t)))
-        → Makes (sizesOf (programIn (now (sheet .entry)))) slots b h (now (work .exit)) r (events (stateOf (sizesOf (programIn (now (sheet .entry)))) (decode (now (cells .entry)))) latest bound (liveAfter (programIn (now (sheet .entry))) (stateOf (sizesOf (programIn (now (sheet .entry)))) (decode (now (cells .entry)))) t))) ⌝ }
+        → Makes (sizesOf (programIn (now (sheet .entry)))) slots b h (now (work .entry)) later (events (stateOf (sizesOf (programIn (now (sheet .entry)))) (decode (now (cells .entry)))) (latest .0) (bound .0) (liveAfter (programIn (now (sheet .entry))) (stateOf (sizesOf (programIn (now (sheet .entry)))) (decode (now (cells .entry)))) (suc t)))
+        → Makes (sizesOf (programIn (now (sheet .entry)))) slots b h (now (work .exit)) r (events (stateOf (sizesOf (programIn (now (sheet .entry)))) (decode (now (cells .entry)))) (latest .0) (bound .0) (liveAfter (programIn (now (sheet .entry))) (stateOf (sizesOf (programIn (now (sheet .entry)))) (decode (now (cells .entry)))) t))) ⌝ }
     ensures { λ r. ⌜ length (now (work .exit)) ≡ length (now (work .entry)) ⌝ }
 {
-    let from = greater(latest, earliest);
-    if bound < from {
+    let from = later_tick(latest, earliest);
+    if bound.0 < from.0 {
         return later;
     }
     let f = fetch(sheet, places, plan, t, at_of(cells, t));
@@ -103,25 +104,26 @@ fn height_of(m: Made, other: usize) -> usize
 
 fn expand(
     sheet: &[u8],
-    places: &[u16; 256],
+    places: &[u16; MOST_PLACES],
     plan: Plan,
-    cells: &[i32; 100],
-    latest: u32,
-    earliest: [u32; 4],
-    bound: u32,
+    cells: &[i32; NUMBERS_PER_STATE],
+    latest: Time,
+    earliest: [Time; MOST_THREADS],
+    bound: Time,
     work: &mut [i32],
     height: usize,
     slots: usize,
 ) -> Made
-    requires { ⌜ Ready (now sheet) plan (now places) × (EarliestFrom (programIn (now sheet)) (decode (now cells)) 0 earliest × ((bound < half32) × ((latest < half32) × (Room slots (now work) × (height ≤ slots))))) ⌝ }
+    requires { ⌜ Ready (now sheet) plan (now places) × (EarliestFrom (programIn (now sheet)) (decode (now cells)) 0 earliest × ((bound .0 < half32) × ((latest .0 < half32) × (Room slots (now work) × (height ≤ slots))))) ⌝ }
     ensures { λ r. ⌜ Makes (sizesOf (programIn (now (sheet .entry)))) slots (now (work .entry)) height (now (work .exit)) r
-        (events (stateOf (sizesOf (programIn (now (sheet .entry)))) (decode (now (cells .entry)))) latest bound (liveAfter (programIn (now (sheet .entry))) (stateOf (sizesOf (programIn (now (sheet .entry)))) (decode (now (cells .entry)))) 0)) ⌝ }
+        (events (stateOf (sizesOf (programIn (now (sheet .entry)))) (decode (now (cells .entry)))) (latest .0) (bound .0) (liveAfter (programIn (now (sheet .entry))) (stateOf (sizesOf (programIn (now (sheet .entry)))) (decode (now (cells .entry)))) 0)) ⌝ }
 {
     let mut made = Made::Height(height);
     let mut t = plan.threads;
     while 0 < t {
         t -= 1;
         let h = height_of(made, height);
+        let e = earliest[t];
         made = before(
             sheet,
             places,
@@ -129,7 +131,7 @@ fn expand(
             cells,
             t,
             latest,
-            earliest[t],
+            e,
             bound,
             made,
             work,
@@ -140,9 +142,9 @@ fn expand(
     made
 }
 
-pub enum Turned {
+pub(crate) enum Turned {
     Refused(Refusal, usize),
-    Ended(u32, u32),
+    Ended(Time, Time),
     Height(usize),
 }
 
@@ -157,9 +159,9 @@ fn as_turned(m: Made) -> Turned
 
 pub(crate) fn turn(
     sheet: &[u8],
-    places: &[u16; 256],
+    places: &[u16; MOST_PLACES],
     plan: Plan,
-    cells: &[i32; 100],
+    cells: &[i32; NUMBERS_PER_STATE],
     work: &mut [i32],
     height: usize,
     slots: usize,
@@ -171,13 +173,17 @@ pub(crate) fn turn(
     let threads = survey_threads(sheet, places, plan, cells);
     let a = threads.survey;
     let earliest = threads.earliest;
+    let low = a.low;
+    let high = a.high;
+    let bound = a.bound;
+    let limit = plan.limit;
     if !a.live {
-        return Turned::Ended(a.low, a.high);
+        return Turned::Ended(low, high);
     }
     if a.waiting {
         return Turned::Refused(Refusal::Stuck, 0);
     }
-    if plan.limit < a.bound {
+    if limit.0 < bound.0 {
         return Turned::Refused(Refusal::PastLimit, 0);
     }
     let m = expand(
@@ -185,9 +191,9 @@ pub(crate) fn turn(
         places,
         plan,
         cells,
-        a.low,
+        low,
         earliest,
-        a.bound,
+        bound,
         work,
         height,
         slots,

@@ -7,6 +7,7 @@ use lib.ListN.{length, take, drop, getD, length-take, length-append, length-drop
 use lib.Seq.{take-at, drop-at, take-append-le, drop-append-le, length-take-le}
 use lib.IntN.{ℤ}
 use lib.Dec.{lit<}
+use Rattle.rules.specs.Constants.{numbersPerState}
 use Rattle.state.specs.declared.Thread.{Thread}
 use Rattle.state.specs.declared.State.{State}
 use Rattle.interval.specs.Shape.{zeroSpan}
@@ -48,26 +49,26 @@ decode-encode s w =
     ∙ (λ i. record { threads = all-items (s .threads) zeroThread 4 (w .four) i; vars = s .vars; owners = all-items (s .owners) 0 8 (w .owners) i })
 
 -- a slot lies in the first part of a list
-slot-low : (p q : List ℤ) (j : ℕ) → j * 100 + 100 ≤ length p → slotOf (p ++ q) j ≡ slotOf p j
+slot-low : (p q : List ℤ) (j : ℕ) → j * numbersPerState + numbersPerState ≤ length p → slotOf (p ++ q) j ≡ slotOf p j
 slot-low p q j h =
-    let r : j * 100 ≤ length p = omega arith in
-    let t : 100 ≤ length (drop (j * 100) p) = simp length-drop (omega arith) in
-    rw (drop-append-le (j * 100) p q r, take-append-le 100 (drop (j * 100) p) q t)
+    let r : j * numbersPerState ≤ length p = omega arith in
+    let t : numbersPerState ≤ length (drop (j * numbersPerState) p) = simp length-drop (omega arith) in
+    rw (drop-append-le (j * numbersPerState) p q r, take-append-le numbersPerState (drop (j * numbersPerState) p) q t)
 
 -- the slot whose numbers were replaced, and those below it
-module _ (b : List ℤ) (k : ℕ) (cells : List ℤ) (hundred : length cells ≡ 100) (room : k * 100 + 100 ≤ length b) where
+module _ (b : List ℤ) (k : ℕ) (cells : List ℤ) (full : length cells ≡ numbersPerState) (room : k * numbersPerState + numbersPerState ≤ length b) where
   pub with-slot-length : length (withSlot b k cells) ≡ length b
   with-slot-length = simp (length-append, length-take, length-drop) (omega arith)
 
   pub slot-same : slotOf (withSlot b k cells) k ≡ cells
   slot-same =
-      let e : length (take (k * 100) b) ≡ k * 100 = length-take-le (k * 100) b (omega arith) in
-      ap (take 100) (drop-at (take (k * 100) b) (cells ++ drop (k * 100 + 100) b) (k * 100) e)
-      ∙ take-at cells (drop (k * 100 + 100) b) 100 hundred
+      let e : length (take (k * numbersPerState) b) ≡ k * numbersPerState = length-take-le (k * numbersPerState) b (omega arith) in
+      ap (take numbersPerState) (drop-at (take (k * numbersPerState) b) (cells ++ drop (k * numbersPerState + numbersPerState) b) (k * numbersPerState) e)
+      ∙ take-at cells (drop (k * numbersPerState + numbersPerState) b) numbersPerState full
 
   pub slot-below : (j : ℕ) → j < k → slotOf (withSlot b k cells) j ≡ slotOf b j
   slot-below j h =
-      let e : length (take (k * 100) b) ≡ k * 100 = length-take-le (k * 100) b (omega arith) in
-      slot-low (take (k * 100) b) (cells ++ drop (k * 100 + 100) b) j (omega arith)
-      ∙ sym (slot-low (take (k * 100) b) (drop (k * 100) b) j (omega arith))
-      ∙ ap (λ (l : List ℤ). slotOf l j) (take-append-drop (k * 100) b)
+      let e : length (take (k * numbersPerState) b) ≡ k * numbersPerState = length-take-le (k * numbersPerState) b (omega arith) in
+      slot-low (take (k * numbersPerState) b) (cells ++ drop (k * numbersPerState + numbersPerState) b) j (omega arith)
+      ∙ sym (slot-low (take (k * numbersPerState) b) (drop (k * numbersPerState) b) j (omega arith))
+      ∙ ap (λ (l : List ℤ). slotOf l j) (take-append-drop (k * numbersPerState) b)

@@ -1,4 +1,4 @@
--- What the parts of a state are in its 100 numbers, and what replacing some of the numbers makes of the state.
+-- What the parts of a state are in its numbers, and what replacing some of the numbers makes of the state.
 use mathlib.Core.Path.{_≡_, refl, sym, ap, _∙_}
 use mathlib.Core.List.{List, [], _∷_}
 use Prim.Native.Nat.{ℕ, zero, suc, _+_, _*_, _-_, _<_, _≤_}
@@ -7,7 +7,7 @@ use native.Mathlib.Nat.{not-suc-le-zero, le-of-suc-le-suc}
 use lib.ListN.{length, getD, set}
 use lib.Seq.{getD-set-same, set-set, ext-getD}
 use lib.IntN.{ℤ, pos, negsuc}
-use Rattle.rules.specs.Constants.{mostThreads, mostRegisters, mostVariables, mostLocks}
+use Rattle.rules.specs.Constants.{mostThreads, mostRegisters, mostVariables, mostLocks, numbersPerState}
 use Rattle.interval.specs.declared.Span.{Span}
 use Rattle.interval.specs.Shape.{zeroSpan}
 use Rattle.state.specs.declared.Thread.{Thread}
@@ -141,10 +141,10 @@ module _ (c b : List ℤ) where
       let rs = spans-same (j + 3) (λ k p q. s k (omega arith) (omega arith)) in
       stand-same j (λ k p q. s k p (omega arith)) ∙ (λ i. record { at = threadFrom b j .at; clock = threadFrom b j .clock; regs = rs i })
 
-  pub decode-same : Same c b 0 100 → decode c ≡ decode b
+  pub decode-same : Same c b 0 numbersPerState → decode c ≡ decode b
   unfolding decode
   decode-same s =
-      let th : (j : ℕ) → j + 19 ≤ 100 → threadFrom c j ≡ threadFrom b j = (λ j h. thread-same j (λ k p q. s k (omega arith) (omega arith))) in
+      let th : (j : ℕ) → j + 19 ≤ numbersPerState → threadFrom c j ≡ threadFrom b j = (λ j h. thread-same j (λ k p q. s k (omega arith) (omega arith))) in
       let vs = spans-same 76 (λ k p q. s k (omega arith) (omega arith)) in
       let os = bytes-same 92 (λ k p q. s k (omega arith) (omega arith)) in
       λ i. record { threads = th 0 (omega arith) i ∷ th 19 (omega arith) i ∷ th 38 (omega arith) i ∷ th 57 (omega arith) i ∷ []; vars = vs i; owners = os i }
@@ -152,7 +152,7 @@ module _ (c b : List ℤ) where
   -- ---- outside one part they agree
 
   threads-but : (t : ℕ) (x : Thread) → t < mostThreads → threadFrom c (t * 19) ≡ x
-      → ((j : ℕ) → j + 19 ≤ t * 19 → threadFrom c j ≡ threadFrom b j) → ((j : ℕ) → t * 19 + 19 ≤ j → j + 19 ≤ 100 → threadFrom c j ≡ threadFrom b j)
+      → ((j : ℕ) → j + 19 ≤ t * 19 → threadFrom c j ≡ threadFrom b j) → ((j : ℕ) → t * 19 + 19 ≤ j → j + 19 ≤ numbersPerState → threadFrom c j ≡ threadFrom b j)
       → decode c .threads ≡ set (decode b .threads) t x
   unfolding decode
   threads-but zero x h e below above = λ i. e i ∷ above 19 (omega arith) (omega arith) i ∷ above 38 (omega arith) (omega arith) i ∷ above 57 (omega arith) (omega arith) i ∷ []
@@ -161,7 +161,7 @@ module _ (c b : List ℤ) where
   threads-but (suc (suc (suc zero))) x h e below above = λ i. below 0 (omega arith) i ∷ below 19 (omega arith) i ∷ below 38 (omega arith) i ∷ e i ∷ []
   threads-but (suc (suc (suc (suc t)))) x h e below above = absurd (omega arith)
 
-  decode-thread : (t : ℕ) (x : Thread) → t < mostThreads → Same c b 0 (t * 19) → Same c b (t * 19 + 19) 100 → threadFrom c (t * 19) ≡ x → decode c ≡ withThread (decode b) t x
+  decode-thread : (t : ℕ) (x : Thread) → t < mostThreads → Same c b 0 (t * 19) → Same c b (t * 19 + 19) numbersPerState → threadFrom c (t * 19) ≡ x → decode c ≡ withThread (decode b) t x
   unfolding decode
   decode-thread t x h lo hi e =
       let vs = spans-same 76 (λ k p q. hi k (omega arith) (omega arith)) in
@@ -192,7 +192,7 @@ module _ (c b : List ℤ) where
       ext-set 0 o (bytesFrom b j) (bytesFrom c j) l refl h (bytes-get c j l h ∙ p)
       (λ k r n. bytes-get c j k r ∙ ap byteOf (kept j l k r n lo hi) ∙ sym (bytes-get b j k r))
 
-  pub decode-variable : (m : ℕ) (v : Span) → m < mostVariables → Same c b 0 (76 + 2 * m) → Same c b (76 + 2 * m + 2) 100
+  pub decode-variable : (m : ℕ) (v : Span) → m < mostVariables → Same c b 0 (76 + 2 * m) → Same c b (76 + 2 * m + 2) numbersPerState
       → cellAt c (76 + 2 * m) ≡ v .low .0 → cellAt c (76 + 2 * m + 1) ≡ v .high .0 → decode c ≡ withVar (decode b) m v
   unfolding decode
   decode-variable m v h lo hi p q =
@@ -201,7 +201,7 @@ module _ (c b : List ℤ) where
       let os = bytes-same 92 (λ k p q. hi k (omega arith) (omega arith)) in
       λ i. record { threads = th 0 (omega arith) i ∷ th 19 (omega arith) i ∷ th 38 (omega arith) i ∷ th 57 (omega arith) i ∷ []; vars = vs i; owners = os i }
 
-  pub decode-owner : (l o : ℕ) → l < mostLocks → Same c b 0 (92 + l) → Same c b (92 + l + 1) 100 → byteFrom c (92 + l) ≡ o → decode c ≡ withOwner (decode b) l o
+  pub decode-owner : (l o : ℕ) → l < mostLocks → Same c b 0 (92 + l) → Same c b (92 + l + 1) numbersPerState → byteFrom c (92 + l) ≡ o → decode c ≡ withOwner (decode b) l o
   unfolding decode
   decode-owner l o h lo hi p =
       let th : (j : ℕ) → j + 19 ≤ 76 → threadFrom c j ≡ threadFrom b j = (λ j h. thread-same j (λ k p q. lo k (omega arith) (omega arith))) in
@@ -211,7 +211,7 @@ module _ (c b : List ℤ) where
 
   -- ---- a thread moved
 
-  pub moved-from : (m : Move) → m .thread < mostThreads → m .at < 256 → Same c b 0 (m .thread * 19) → Same c b (m .thread * 19 + 3) 100
+  pub moved-from : (m : Move) → m .thread < mostThreads → m .at < 256 → Same c b 0 (m .thread * 19) → Same c b (m .thread * 19 + 3) numbersPerState
       → cellAt c (m .thread * 19) ≡ pos (m .at) → cellAt c (m .thread * 19 + 1) ≡ pos (m .clock .low .0) → cellAt c (m .thread * 19 + 2) ≡ pos (m .clock .high .0)
       → decode c ≡ movedTo (decode b) m (threadAt (decode b) (m .thread) .regs)
   moved-from m h small lo hi at low high =
@@ -226,14 +226,14 @@ module _ (c b : List ℤ) where
     moved-thread : threadFrom b (m .thread * 19) ≡ record { at = m .at; clock = m .clock; regs = regs }
     moved-thread = sym (thread-from b (m .thread) h) ∙ ap (λ (x : State). threadAt x (m .thread)) e ∙ getD-set-same (s .threads) (m .thread) _ zeroThread (omega arith)
 
-    pub registers-moved : (rs : List Span) → Same c b 0 (m .thread * 19 + 3) → Same c b (m .thread * 19 + 19) 100 → spansFrom c (m .thread * 19 + 3) ≡ rs → decode c ≡ movedTo s m rs
+    pub registers-moved : (rs : List Span) → Same c b 0 (m .thread * 19 + 3) → Same c b (m .thread * 19 + 19) numbersPerState → spansFrom c (m .thread * 19 + 3) ≡ rs → decode c ≡ movedTo s m rs
     registers-moved rs lo hi r =
         decode-thread (m .thread) (record { at = m .at; clock = m .clock; regs = rs }) h (λ k p q. lo k p (omega arith)) hi
         (stand-same (m .thread * 19) (λ k p q. lo k (omega arith) q) ∙ (λ i. record { at = moved-thread i .at; clock = moved-thread i .clock; regs = r i }))
         ∙ ap (λ (x : State). withThread x (m .thread) (record { at = m .at; clock = m .clock; regs = rs })) e
         ∙ (λ i. record { threads = set-set (s .threads) (m .thread) (record { at = m .at; clock = m .clock; regs = regs }) (record { at = m .at; clock = m .clock; regs = rs }) i; vars = s .vars; owners = s .owners })
 
-    pub register-moved : (k : ℕ) (v : Span) → k < mostRegisters → Same c b 0 (m .thread * 19 + 3 + 2 * k) → Same c b (m .thread * 19 + 3 + 2 * k + 2) 100
+    pub register-moved : (k : ℕ) (v : Span) → k < mostRegisters → Same c b 0 (m .thread * 19 + 3 + 2 * k) → Same c b (m .thread * 19 + 3 + 2 * k + 2) numbersPerState
         → cellAt c (m .thread * 19 + 3 + 2 * k) ≡ v .low .0 → cellAt c (m .thread * 19 + 3 + 2 * k + 1) ≡ v .high .0 → decode c ≡ movedTo s m (set regs k v)
     register-moved k v r lo hi p q =
         registers-moved (set regs k v) (λ n i j. lo n i (omega arith)) (λ n i j. hi n (omega arith) j)

@@ -20,17 +20,17 @@ unfolding stackOf
 stack-length zero b = refl
 stack-length (suc n) b = ap suc (stack-length n b)
 
-module _ (b : List ℤ) (k : ℕ) (cells : List ℤ) (hundred : length cells ≡ numbersPerState) (room : k * numbersPerState + numbersPerState ≤ length b) where
+module _ (b : List ℤ) (k : ℕ) (cells : List ℤ) (full : length cells ≡ numbersPerState) (room : k * numbersPerState + numbersPerState ≤ length b) where
   -- the slots below the one that is written are as they were
   stack-below : (n : ℕ) → n ≤ k → stackOf n (withSlot b k cells) ≡ stackOf n b
   unfolding stackOf
   stack-below zero h = refl
-  stack-below (suc n) h = λ i. decode (slot-below b k cells hundred room n h i) ∷ stack-below n (omega arith) i
+  stack-below (suc n) h = λ i. decode (slot-below b k cells full room n h i) ∷ stack-below n (omega arith) i
 
   -- numbers written at the top are a push
   pub push : stackOf (k + 1) (withSlot b k cells) ≡ decode cells ∷ stackOf k b
   unfolding stackOf
-  push = rw add-one (λ i. decode (slot-same b k cells hundred room i) ∷ stack-below k (le-refl k) i)
+  push = rw add-one (λ i. decode (slot-same b k cells full room i) ∷ stack-below k (le-refl k) i)
 
 pub top : (b : List ℤ) (n : ℕ) → 0 < n → stackOf n b ≡ decode (slotOf b (n - 1)) ∷ stackOf (n - 1) b
 unfolding stackOf

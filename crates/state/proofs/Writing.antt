@@ -14,6 +14,7 @@ use mir.Syntax.{w32}
 use mir.Val.{toZ, ofZ}
 use mir.Facts.{toZ-ofZ}
 use borrow.Author.Tests.{ltb-true}
+use Rattle.rules.specs.Constants.{numbersPerState}
 use Rattle.state.specs.declared.Thread.{Thread}
 use Rattle.interval.specs.declared.Span.{Span}
 use borrow.Rule.Slice.PartMut.{putMid}
@@ -115,7 +116,7 @@ pub spans-16 : (l : List Span) → length (spansCells l) ≡ 16
 unfolding spansCells
 spans-16 l = refl
 
-pub encode-length : (s : State) → length (encode s) ≡ 100
+pub encode-length : (s : State) → length (encode s) ≡ numbersPerState
 unfolding encode
 encode-length s = refl
 
@@ -123,7 +124,7 @@ pub next-part : {A : Type 0} {x : List A} (p d ys : List A) (n k : ℕ) → x �
 next-part {A} p d ys n k q e h = ap (λ (l : List A). putMid n k l ys) q ∙ part-more p d ys n k e h
 
 -- what a slot's six parts make of it
-pub six-parts : (l a b c d e f : List ℤ) → length l ≡ 100 → length a ≡ 19 → length b ≡ 19 → length c ≡ 19 → length d ≡ 19 → length e ≡ 16
+pub six-parts : (l a b c d e f : List ℤ) → length l ≡ numbersPerState → length a ≡ 19 → length b ≡ 19 → length c ≡ 19 → length d ≡ 19 → length e ≡ 16
     → putMid 92 8 (putMid 76 16 (putMid 57 19 (putMid 38 19 (putMid 19 19 (putMid 0 19 l a) b) c) d) e) f ≡ a ++ (b ++ (c ++ (d ++ (e ++ f))))
 six-parts l a b c d e f hl ha hb hc hd he =
     let p1 = next-part [] l a 0 19 refl refl (omega arith) in
@@ -132,15 +133,19 @@ six-parts l a b c d e f hl ha hb hc hd he =
     let p4 = next-part ((a ++ b) ++ c) l d 57 19 p3 (simp length-append (omega arith)) (omega arith) in
     let p5 = next-part (((a ++ b) ++ c) ++ d) l e 76 16 p4 (simp length-append (omega arith)) (omega arith) in
     let p6 = next-part ((((a ++ b) ++ c) ++ d) ++ e) l f 92 8 p5 (simp length-append (omega arith)) (omega arith) in
-    p6 ∙ drop-all (((((a ++ b) ++ c) ++ d) ++ e) ++ f) l 100 (omega arith) ∙ simp append-assoc
+    p6 ∙ drop-all (((((a ++ b) ++ c) ++ d) ++ e) ++ f) l numbersPerState (omega arith) ∙ simp append-assoc
 
-pub thread-written : (l rs : List ℤ) (th : Thread) (a b c : ℤ) → length l ≡ 19 → a ≡ pos (th .at) → b ≡ pos (th .clock .low .0) → c ≡ pos (th .clock .high .0) → rs ≡ spansCells (th .regs)
-    → putMid 3 16 (set (set (set l 0 a) 1 b) 2 c) rs ≡ threadCells th
+-- three numbers written one after the other
+pub three-in-turn : {A : Type 0} (l : List A) {a b c : List A} (p q r : ℕ) (x y z : A) → a ≡ set l p x → b ≡ set a q y → c ≡ set b r z → c ≡ set (set (set l p x) q y) r z
+three-in-turn {A} l p q r x y z e f g = g ∙ ap (λ (m : List A). set m r z) (f ∙ ap (λ (m : List A). set m q y) e)
+
+pub thread-written : (l m rs : List ℤ) (th : Thread) → length l ≡ 19 → m ≡ set (set (set l 0 (pos (th .at))) 1 (pos (th .clock .low .0))) 2 (pos (th .clock .high .0))
+    → rs ≡ spansCells (th .regs) → putMid 3 16 m rs ≡ threadCells th
 unfolding threadCells
-thread-written l rs th a b c h ea eb ec er =
-    next-part (a ∷ b ∷ c ∷ []) l rs 3 16 (three-sets l a b c (omega arith)) refl (omega arith)
+thread-written l m rs th h e er =
+    next-part (pos (th .at) ∷ pos (th .clock .low .0) ∷ pos (th .clock .high .0) ∷ []) l rs 3 16 (e ∙ three-sets l _ _ _ (omega arith)) refl (omega arith)
     ∙ drop-all _ l 19 (omega arith)
-    ∙ (λ i. ea i ∷ eb i ∷ ec i ∷ er i)
+    ∙ ap (λ (r : List ℤ). pos (th .at) ∷ pos (th .clock .low .0) ∷ pos (th .clock .high .0) ∷ r) er
 
 -- the machine's reading of a signed result
 pub back : {r z : ℤ} → mag r < 2 ^ 31 → r ≡ z → toZ w32 (ofZ w32 r) ≡ z
@@ -149,13 +154,13 @@ back h e = toZ-ofZ (record { sfits = h }) ∙ e
 pub again : (z : ℤ) → mag z < 2 ^ 31 → toZ w32 (ofZ w32 z) ≡ z
 again z h = toZ-ofZ (record { sfits = h })
 
-pub hundred : (a : ℕ) → a + 100 - a ≡ 100
-hundred a = omega arith
+pub slot-size : (a : ℕ) → a + numbersPerState - a ≡ numbersPerState
+slot-size a = omega arith
 
-pub slot-put : (b xs : List ℤ) (a : ℕ) → putMid a (a + 100 - a) b xs ≡ take a b ++ (xs ++ drop (a + 100) b)
-slot-put b xs a = rw (hundred a, drop-drop 100 a b)
+pub slot-put : (b xs : List ℤ) (a : ℕ) → putMid a (a + numbersPerState - a) b xs ≡ take a b ++ (xs ++ drop (a + numbersPerState) b)
+slot-put b xs a = rw (slot-size a, drop-drop numbersPerState a b)
 
-pub state-written : (l : List ℤ) (s : State) (a b c d e f : List ℤ) → length l ≡ 100
+pub state-written : (l : List ℤ) (s : State) (a b c d e f : List ℤ) → length l ≡ numbersPerState
     → a ≡ threadCells (threadAt s 0) → b ≡ threadCells (threadAt s 1) → c ≡ threadCells (threadAt s 2) → d ≡ threadCells (threadAt s 3) → e ≡ spansCells (s .vars) → f ≡ ownersCells (s .owners)
     → putMid 92 8 (putMid 76 16 (putMid 57 19 (putMid 38 19 (putMid 19 19 (putMid 0 19 l a) b) c) d) e) f ≡ encode s
 unfolding encode

@@ -1,4 +1,4 @@
--- The numbers of a state, 100 of them, and back; the slots of the buffer and the stack that they hold.
+-- The numbers of a state, and back; the slots of the buffer and the stack that they hold.
 use Prim.Native.Nat.{ℕ, zero, suc, min, _+_, _*_, _<_, _≤_}
 use mathlib.Core.Path.{_≡_}
 use mathlib.Core.List.{List, [], _∷_, _++_}

@@ -1,10 +1,11 @@
-// The 100 numbers of a state in the work buffer: a slot holds one state, and the slots below a height are a stack. In a slot
+// The numbers of a state in the work buffer: a slot holds one state, and the slots below a height are a stack. In a slot
 // stand four threads of 19 numbers (statement, clock low and high, eight registers low and high), then eight variables low
 // and high, then eight owners.
 use crate::State;
 use crate::Thread;
-use crate::Time;
 use interval::Span;
+use interval::Val;
+use reader::Time;
 ghost use mathlib.Core.Path.{_≡_};
 ghost use Prim.Native.Nat.{_<_, _≤_, _+_, _*_};
 ghost use lib.IntN.{pos};
@@ -20,29 +21,54 @@ pub(crate) const FIRST_VARIABLE: usize = 76;
 
 pub(crate) const FIRST_OWNER: usize = 92;
 
-// ---- a state to its numbers
+// ---- one number: a statement's number or an owner, a tick, a value. But for copying a whole slot and clearing the buffer, nothing
+// else writes into a slot, so no tick is written where a value is due
 
-pub(crate) fn byte_cell(b: u8) -> i32
+fn byte_cell(b: u8) -> i32
     ensures { λ r. ⌜ (r ≡ pos b) × (b < 256) ⌝ }
 {
     b as i32
 }
 
-pub(crate) fn time_cell(t: Time) -> i32
+fn time_cell(t: Time) -> i32
     requires { ⌜ t .0 < half32 ⌝ }
     ensures { λ r. ⌜ r ≡ pos (t .0) ⌝ }
 {
     t.0 as i32
 }
 
+pub(crate) fn put_byte(cells: &mut [i32], at: usize, b: u8)
+    requires { ⌜ at < length (now cells) ⌝ }
+    ensures { λ _. ⌜ (now (cells .exit) ≡ set (now (cells .entry)) at (pos b)) × (b < 256) ⌝ }
+{
+    let x = byte_cell(b);
+    cells[at] = x;
+}
+
+pub(crate) fn put_time(cells: &mut [i32], at: usize, t: Time)
+    requires { ⌜ (at < length (now cells)) × (t .0 < half32) ⌝ }
+    ensures { λ _. ⌜ now (cells .exit) ≡ set (now (cells .entry)) at (pos (t .0)) ⌝ }
+{
+    let x = time_cell(t);
+    cells[at] = x;
+}
+
+fn put_value(cells: &mut [i32], at: usize, v: Val)
+    requires { ⌜ at < length (now cells) ⌝ }
+    ensures { λ _. ⌜ now (cells .exit) ≡ set (now (cells .entry)) at (v .0) ⌝ }
+{
+    let x = v.0;
+    cells[at] = x;
+}
+
+// ---- a state to its numbers
+
 pub(crate) fn put_span(cells: &mut [i32], at: usize, v: Span)
     requires { ⌜ at + 2 ≤ length (now cells) ⌝ }
     ensures { λ _. ⌜ now (cells .exit) ≡ set (set (now (cells .entry)) at (v .low .0)) (at + 1) (v .high .0) ⌝ }
 {
-    let low = v.low.0;
-    let high = v.high.0;
-    cells[at] = low;
-    cells[at + 1] = high;
+    put_value(cells, at, v.low);
+    put_value(cells, at + 1, v.high);
 }
 
 pub(crate) fn put_spans(cells: &mut [i32], v: [Span; 8])
@@ -63,8 +89,7 @@ fn put_owners(cells: &mut [i32], v: [u8; 8])
 {
     let mut i: usize = 0;
     while i < 8 {
-        let x = byte_cell(v[i]);
-        cells[i] = x;
+        put_byte(cells, i, v[i]);
         i += 1;
     }
 }
@@ -73,13 +98,10 @@ fn put_thread(cells: &mut [i32], th: Thread)
     requires { ⌜ (length (now cells) ≡ 19) × Timed th ⌝ }
     ensures { λ _. ⌜ now (cells .exit) ≡ threadCells th ⌝ }
 {
-    let at = byte_cell(th.at);
-    let low = time_cell(th.clock.low);
-    let high = time_cell(th.clock.high);
     let regs = th.regs;
-    cells[0] = at;
-    cells[1] = low;
-    cells[2] = high;
+    put_byte(cells, 0, th.at);
+    put_time(cells, 1, th.clock.low);
+    put_time(cells, 2, th.clock.high);
     put_spans(&mut cells[3..19], regs);
 }
 
@@ -98,7 +120,7 @@ fn put_state(cells: &mut [i32], s: State)
     put_thread(&mut cells[38..57], t2);
     put_thread(&mut cells[57..76], t3);
     put_spans(&mut cells[76..92], vars);
-    put_owners(&mut cells[92..100], owners);
+    put_owners(&mut cells[92..NUMBERS_PER_STATE], owners);
 }
 
 // The state goes to a slot; the other numbers stay.

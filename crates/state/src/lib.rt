@@ -1,11 +1,12 @@
 // A state of the search, by value: where each thread stands, its clock and its registers, the variables, and who owns each
 // lock. There is always room for 4 threads, 8 registers each, 8 variables and 8 locks; the sheet says how many of them count.
 use interval::Span;
+use reader::Time;
 
-pub mod cells; // the numbers of a state, and the stack of states in the work buffer
-pub mod parts; // the parts of a state, read from its numbers
+mod cells; // the numbers of a state, and the stack of states in the work buffer
+mod parts; // the parts of a state, read from its numbers
 pub mod moves; // the state that an event makes, in its slot
-pub mod starting; // the state in which a search starts
+mod starting; // the state in which a search starts
 
 pub use cells::NUMBERS_PER_STATE;
 pub use cells::clear;
@@ -24,9 +25,6 @@ pub use parts::registers_of;
 pub use parts::take_slot;
 pub use parts::variable_of;
 pub use starting::start;
-
-// A tick of a clock.
-pub struct Time(pub u32);
 
 // The earliest and the latest tick that a thread's clock may show.
 pub struct Clock {

@@ -3,11 +3,12 @@
 use crate::Clock;
 use crate::cells::FIRST_OWNER;
 use crate::cells::FIRST_VARIABLE;
+use crate::cells::NUMBERS_PER_STATE;
 use crate::cells::NUMBERS_PER_THREAD;
-use crate::cells::byte_cell;
+use crate::cells::put_byte;
 use crate::cells::put_span;
 use crate::cells::put_spans;
-use crate::cells::time_cell;
+use crate::cells::put_time;
 use interval::Span;
 ghost use mathlib.Core.Path.{_≡_};
 ghost use Prim.Native.Nat.{ℕ, _<_};
@@ -24,34 +25,31 @@ pub struct Move {
     pub clock: Clock,
 }
 
-fn copy(slot: &mut [i32], cells: &[i32; 100])
+fn copy(slot: &mut [i32], cells: &[i32; NUMBERS_PER_STATE])
     requires { ⌜ length (now slot) ≡ numbersPerState ⌝ }
     ensures { λ _. ⌜ ((k : ℕ) → k < numbersPerState → cellAt (now (slot .exit)) k ≡ cellAt (now (cells .entry)) k) ⌝ }
 {
     let mut i: usize = 0;
-    while i < 100 {
+    while i < NUMBERS_PER_STATE {
         slot[i] = cells[i];
         i += 1;
     }
 }
 
 // The thread moved, its registers as they were.
-pub fn put_moved(slot: &mut [i32], cells: &[i32; 100], m: Move)
+pub fn put_moved(slot: &mut [i32], cells: &[i32; NUMBERS_PER_STATE], m: Move)
     requires { ⌜ (length (now slot) ≡ numbersPerState) × MoveFits m ⌝ }
     ensures { λ _. ⌜ decode (now (slot .exit)) ≡ movedTo (decode (now (cells .entry))) m (threadAt (decode (now (cells .entry))) (m .thread) .regs) ⌝ }
 {
     let p = m.thread * NUMBERS_PER_THREAD;
-    let at = byte_cell(m.at);
-    let low = time_cell(m.clock.low);
-    let high = time_cell(m.clock.high);
     copy(slot, cells);
-    slot[p] = at;
-    slot[p + 1] = low;
-    slot[p + 2] = high;
+    put_byte(slot, p, m.at);
+    put_time(slot, p + 1, m.clock.low);
+    put_time(slot, p + 2, m.clock.high);
 }
 
 // The thread moved, with register i of it.
-pub fn put_register(slot: &mut [i32], cells: &[i32; 100], m: Move, i: usize, v: Span)
+pub fn put_register(slot: &mut [i32], cells: &[i32; NUMBERS_PER_STATE], m: Move, i: usize, v: Span)
     requires { ⌜ (length (now slot) ≡ numbersPerState) × (MoveFits m × (i < mostRegisters)) ⌝ }
     ensures { λ _. ⌜ decode (now (slot .exit)) ≡ movedTo (decode (now (cells .entry))) m (set (threadAt (decode (now (cells .entry))) (m .thread) .regs) i v) ⌝ }
 {
@@ -60,7 +58,7 @@ pub fn put_register(slot: &mut [i32], cells: &[i32; 100], m: Move, i: usize, v: 
 }
 
 // The thread moved, with all its registers.
-pub fn put_registers(slot: &mut [i32], cells: &[i32; 100], m: Move, regs: [Span; 8])
+pub fn put_registers(slot: &mut [i32], cells: &[i32; NUMBERS_PER_STATE], m: Move, regs: [Span; 8])
     requires { ⌜ (length (now slot) ≡ numbersPerState) × MoveFits m ⌝ }
     ensures { λ _. ⌜ decode (now (slot .exit)) ≡ movedTo (decode (now (cells .entry))) m regs ⌝ }
 {
@@ -70,7 +68,7 @@ pub fn put_registers(slot: &mut [i32], cells: &[i32; 100], m: Move, regs: [Span;
 }
 
 // The thread moved, and variable k.
-pub fn put_variable(slot: &mut [i32], cells: &[i32; 100], m: Move, k: usize, v: Span)
+pub fn put_variable(slot: &mut [i32], cells: &[i32; NUMBERS_PER_STATE], m: Move, k: usize, v: Span)
     requires { ⌜ (length (now slot) ≡ numbersPerState) × (MoveFits m × (k < mostVariables)) ⌝ }
     ensures { λ _. ⌜ decode (now (slot .exit)) ≡ withVar (movedTo (decode (now (cells .entry))) m (threadAt (decode (now (cells .entry))) (m .thread) .regs)) k v ⌝ }
 {
@@ -79,10 +77,10 @@ pub fn put_variable(slot: &mut [i32], cells: &[i32; 100], m: Move, k: usize, v: 
 }
 
 // The thread moved, and the owner of lock l.
-pub fn put_owner(slot: &mut [i32], cells: &[i32; 100], m: Move, l: usize, o: u8)
+pub fn put_owner(slot: &mut [i32], cells: &[i32; NUMBERS_PER_STATE], m: Move, l: usize, o: u8)
     requires { ⌜ (length (now slot) ≡ numbersPerState) × (MoveFits m × (l < mostLocks)) ⌝ }
     ensures { λ _. ⌜ decode (now (slot .exit)) ≡ withOwner (movedTo (decode (now (cells .entry))) m (threadAt (decode (now (cells .entry))) (m .thread) .regs)) l o ⌝ }
 {
     put_moved(slot, cells, m);
-    slot[FIRST_OWNER + l] = byte_cell(o);
+    put_byte(slot, FIRST_OWNER + l, o);
 }

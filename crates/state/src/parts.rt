@@ -1,13 +1,13 @@
-// The parts of the state that 100 numbers hold. Every number reads as a part of some state: one that is no byte as the nearest
+// The parts of the state that a slot's numbers hold. Every number reads as a part of some state: one that is no byte as the nearest
 // byte, and a tick below 0 as 0.
 use crate::Clock;
-use crate::Time;
 use crate::cells::FIRST_OWNER;
 use crate::cells::FIRST_VARIABLE;
 use crate::cells::NUMBERS_PER_STATE;
 use crate::cells::NUMBERS_PER_THREAD;
 use interval::Span;
 use interval::Val;
+use reader::Time;
 ghost use mathlib.Core.Path.{_≡_};
 ghost use Prim.Native.Nat.{_<_, _≤_, _+_, _*_};
 ghost use lib.ListN.{length};
@@ -16,14 +16,14 @@ ghost use Rattle.state.specs.Access.{threadAt, varAt, ownerAt, regAt};
 ghost use Rattle.state.specs.Cells.{slotOf, byteOf, timeOf, spanFrom, decode, AllTimed};
 
 // The numbers of a slot.
-pub fn take_slot(work: &[i32], slot: usize) -> [i32; 100]
+pub fn take_slot(work: &[i32], slot: usize) -> [i32; NUMBERS_PER_STATE]
     requires { ⌜ slot * numbersPerState + numbersPerState ≤ length (now work) ⌝ }
     ensures { λ r. ⌜ (decode r ≡ decode (slotOf (now (work .entry)) slot)) × AllTimed (decode r) ⌝ }
 {
     let from = slot * NUMBERS_PER_STATE;
-    let mut cells: [i32; 100] = [0; 100];
+    let mut cells: [i32; NUMBERS_PER_STATE] = [0; NUMBERS_PER_STATE];
     let mut i: usize = 0;
-    while i < 100 {
+    while i < NUMBERS_PER_STATE {
         cells[i] = work[from + i];
         i += 1;
     }
@@ -52,14 +52,14 @@ fn cell_time(x: i32) -> Time
 }
 
 // Where thread t stands.
-pub fn at_of(cells: &[i32; 100], t: usize) -> u8
+pub fn at_of(cells: &[i32; NUMBERS_PER_STATE], t: usize) -> u8
     requires { ⌜ t < mostThreads ⌝ }
     ensures { λ r. ⌜ r ≡ threadAt (decode (now (cells .entry))) t .at ⌝ }
 {
     cell_byte(cells[t * NUMBERS_PER_THREAD])
 }
 
-pub fn clock_of(cells: &[i32; 100], t: usize) -> Clock
+pub fn clock_of(cells: &[i32; NUMBERS_PER_STATE], t: usize) -> Clock
     requires { ⌜ t < mostThreads ⌝ }
     ensures { λ r. ⌜ (r ≡ threadAt (decode (now (cells .entry))) t .clock) × ((r .low .0 < half32) × (r .high .0 < half32)) ⌝ }
 {
@@ -72,7 +72,7 @@ pub fn clock_of(cells: &[i32; 100], t: usize) -> Clock
     }
 }
 
-fn span_of(cells: &[i32; 100], at: usize) -> Span
+fn span_of(cells: &[i32; NUMBERS_PER_STATE], at: usize) -> Span
     requires { ⌜ at + 2 ≤ numbersPerState ⌝ }
     ensures { λ r. ⌜ r ≡ spanFrom (now (cells .entry)) at ⌝ }
 {
@@ -84,7 +84,7 @@ fn span_of(cells: &[i32; 100], at: usize) -> Span
     }
 }
 
-pub fn registers_of(cells: &[i32; 100], t: usize) -> [Span; 8]
+pub fn registers_of(cells: &[i32; NUMBERS_PER_STATE], t: usize) -> [Span; 8]
     requires { ⌜ t < mostThreads ⌝ }
     ensures { λ r. ⌜ r ≡ threadAt (decode (now (cells .entry))) t .regs ⌝ }
 {
@@ -100,21 +100,21 @@ pub fn registers_of(cells: &[i32; 100], t: usize) -> [Span; 8]
     [a, b, c, d, e, f, g, h]
 }
 
-pub fn register_of(cells: &[i32; 100], t: usize, i: usize) -> Span
+pub fn register_of(cells: &[i32; NUMBERS_PER_STATE], t: usize, i: usize) -> Span
     requires { ⌜ (t < mostThreads) × (i < mostRegisters) ⌝ }
     ensures { λ r. ⌜ r ≡ regAt (threadAt (decode (now (cells .entry))) t) i ⌝ }
 {
     span_of(cells, t * NUMBERS_PER_THREAD + 3 + 2 * i)
 }
 
-pub fn variable_of(cells: &[i32; 100], k: usize) -> Span
+pub fn variable_of(cells: &[i32; NUMBERS_PER_STATE], k: usize) -> Span
     requires { ⌜ k < mostVariables ⌝ }
     ensures { λ r. ⌜ r ≡ varAt (decode (now (cells .entry))) k ⌝ }
 {
     span_of(cells, FIRST_VARIABLE + 2 * k)
 }
 
-pub fn owner_of(cells: &[i32; 100], l: usize) -> u8
+pub fn owner_of(cells: &[i32; NUMBERS_PER_STATE], l: usize) -> u8
     requires { ⌜ l < mostLocks ⌝ }
     ensures { λ r. ⌜ r ≡ ownerAt (decode (now (cells .entry))) l ⌝ }
 {

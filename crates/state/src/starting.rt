@@ -3,29 +3,27 @@
 use crate::Clock;
 use crate::State;
 use crate::Thread;
-use crate::Time;
 use expression::int32_at;
 use interval::Span;
 use interval::Val;
 use reader::Index;
+use reader::MOST_THREADS;
+use reader::Time;
 use reader::threads::ThreadEntry;
 ghost use mathlib.Core.Path.{_≡_};
 ghost use Prim.Native.Nat.{ℕ, _<_, _≤_, _+_, _*_};
 ghost use lib.ListN.{length, getD};
 ghost use Rattle.rules.specs.Constants.{mostThreads, mostRegisters};
-ghost use Rattle.rules.specs.Program.{Program};
-ghost use Rattle.rules.specs.Format.{got, readSheet};
-ghost use Rattle.rules.specs.Search.{start};
+ghost use Rattle.rules.specs.Format.{readSheet};
 ghost use Rattle.interval.specs.Shape.{intervalOf};
 ghost use Rattle.expression.specs.Evaluation.{regsOf};
 ghost use Rattle.reader.specs.Index.{noEntry, indexOf};
 ghost use Rattle.reader.specs.Facts.{rangeAt, ranges};
-ghost use Rattle.state.specs.Cells.{Timed, AllTimed};
-ghost use Rattle.state.specs.Shape.{sizesOf, stateOf};
-ghost use Rattle.state.specs.Start.{EntryFits, ThreadStarts};
+ghost use Rattle.state.specs.Cells.{Timed};
+ghost use Rattle.state.specs.Start.{EntryFits, ThreadStarts, StartsAs};
 
 // Behind the header and the locks stands the first variable.
-const FIRST_VARIABLE: usize = 23;
+const VARIABLES_AT: usize = 23;
 
 // The bytes of a range with its tag and its length.
 const RANGE_SIZE: usize = 11;
@@ -103,7 +101,7 @@ fn no_thread() -> Thread
 }
 
 // Thread t of a sheet with n threads.
-fn thread_of(s: &[u8], entries: [ThreadEntry; 4], n: usize, t: usize) -> Thread
+fn thread_of(s: &[u8], entries: [ThreadEntry; MOST_THREADS], n: usize, t: usize) -> Thread
     requires { ⌜ (t < mostThreads) × ((k : ℕ) → k < n → EntryFits (now s) (getD entries k noEntry)) ⌝ }
     ensures { λ r. ⌜ (t < n → ThreadStarts (now (s .entry)) (getD entries t noEntry) r) × Timed r ⌝ }
 {
@@ -117,7 +115,7 @@ fn thread_of(s: &[u8], entries: [ThreadEntry; 4], n: usize, t: usize) -> Thread
 // The starting state of a sheet that reads, by its index.
 pub fn start(sheet: &[u8], index: Index) -> State
     requires { ⌜ (index ≡ indexOf (readSheet (now sheet))) × (index .refusal ≡ 0) ⌝ }
-    ensures { λ r. ⌜ ((g : Program) (e : ℕ) → readSheet (now (sheet .entry)) ≡ got g e → stateOf (sizesOf g) r ≡ start g) × AllTimed r ⌝ }
+    ensures { λ r. ⌜ StartsAs (now (sheet .entry)) r ⌝ }
 {
     let entries = index.entries;
     let n = index.threads;
@@ -125,7 +123,7 @@ pub fn start(sheet: &[u8], index: Index) -> State
     let t1 = thread_of(sheet, entries, n, 1);
     let t2 = thread_of(sheet, entries, n, 2);
     let t3 = thread_of(sheet, entries, n, 3);
-    let vars = ranges_at(sheet, FIRST_VARIABLE, index.variables);
+    let vars = ranges_at(sheet, VARIABLES_AT, index.variables);
     State {
         threads: [t0, t1, t2, t3],
         vars: vars,

@@ -1,39 +1,29 @@
-use mathlib.Core.Path.{_≡_, refl, sym, ap, subst, _∙_}
+-- `label::by_label` meets its contract. Assumes nothing.
+use mathlib.Core.Path.{sym, ap, _∙_}
 use Prim.Native.Nat.{ℕ}
 use Rattle.label.specs.Shape.{fiveOf}
 use borrow.Author.Needs.{needs}
 use Rattle.label.proofs.by_label.Statement.{statement}
 use Rattle.label.proofs.by_label.Tie as tie
-use Rattle.label.proofs.by_label.Reads as reads
-use Rattle.label.proofs.by_label.Lts as lts
-use Rattle.label.proofs.five.Reads as five-reads
-use Rattle.label.proofs.inside.Reads as inside-reads
-use Rattle.refusal.proofs.number_of.Reads as number-of-reads
 
--- src/lib.rt:76:8
 inside-requires : tie.Need-inside-requires
 inside-requires c κs = search needs
 
--- src/lib.rt:77:9
 five-requires : tie.Need-five-requires
 five-requires c κs = search needs
 
--- src/lib.rt:77:9
 returns : tie.Need-returns
-returns c = rw (sym (c .before .before .inside .ensures), c .before .if1 .taken) (c .five .ensures)
+returns c = rw (sym (c .before .before .inside .ensures) ∙ c .before .if1 .taken) (c .five .ensures)
 
--- src/lib.rt:79:9
 number-of-requires : tie.Need-number-of-requires
 number-of-requires c κs = search needs
 
--- src/lib.rt:80:5
 five-requires-2 : tie.Need-five-requires-2
 five-requires-2 c κs = search needs
 
--- src/lib.rt:71:1
 returns-2 : tie.Need-returns-2
 returns-2 c = let arg = c .before .before .before .before .args in
-    rw (sym (c .before .before .before .inside .ensures), c .before .before .if1 .left) (c .five2 .ensures ∙ ap (λ (n : ℕ). fiveOf n 0 (arg .steps) (arg .w .low) (arg .w .high)) (c .before .number-of .ensures))
+    rw (sym (c .before .before .before .inside .ensures) ∙ c .before .before .if1 .left) (c .five2 .ensures ∙ ap (λ (n : ℕ). fiveOf n 0 (arg .steps) (arg .w .low .0) (arg .w .high .0)) (c .before .number-of .ensures))
 
 pub by-label-spec : {M : Type 1} → statement M
 by-label-spec =

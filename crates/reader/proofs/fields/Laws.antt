@@ -1,19 +1,21 @@
 -- What the readings of a header and of the fields of tags 1, 3 and 4 are, as the code goes through them.
 use mathlib.Core.Path.{_≡_, refl, sym, ap, _∙_}
-use mathlib.Core.Bool.{Bool, true, false, _&&_}
-use Prim.Native.Nat.{ℕ, zero, suc, _+_, _<_, _≤_}
+use mathlib.Core.Bool.{Bool, true, false}
+use Prim.Native.Nat.{ℕ, _+_, _<_, _≤_}
 use native.Mathlib.Omega.{arith}
-use lib.Dec.{leb, ltb, eqb}
-use lib.ListN.{length, getD, List·getD-eq-default}
+use lib.Dec.{leb, eqb}
+use lib.ListN.{length, List·getD-eq-default}
 use borrow.Author.Tests.{eq-eqb, ne-eqb, le-leb, lt-leb, leb-true, leb-false, eqb-true}
 use Rattle.rules.specs.Refusal.{short, outOfTurn, badLength, offRange}
-use Rattle.rules.specs.Constants.{mostRegisters}
-use Rattle.rules.specs.Format.{Bytes, byte, num16, num32, Got, bad, got, need, hasHead, hasBody, due, sized, headerFits, readHeader, readLocks}
+use Rattle.rules.specs.Constants.{mostRegisters, greatestLimit, greatestBudget}
+use Rattle.rules.specs.Format.{Bytes, byte, num16, num32, Got, got, need, hasHead, hasBody, due, sized, headerFits, readLocks}
 use Rattle.refusal.specs.declared.Refusal.{Refusal}
 use Rattle.refusal.specs.declared.Refusal.the-variants.{Short, OutOfTurn, BadLength, OffRange}
 use Rattle.reader.specs.declared.outcome.End.{End}
 use Rattle.reader.specs.declared.outcome.End.the-variants.{At, Refused}
+use Rattle.reader.specs.declared.fields.Header.{Header}
 use Rattle.reader.specs.Outcome.{endOf}
+use Rattle.reader.specs.Walk.{headerOf, headerIn, headerAt}
 use Rattle.reader.proofs.outcome.Laws.{need-yes, need-no, apart}
 
 -- ---- a byte past the end is 0
@@ -21,13 +23,9 @@ use Rattle.reader.proofs.outcome.Laws.{need-yes, need-no, apart}
 pub past-end : (s : Bytes) (p : ℕ) → length s ≤ p → 0 ≡ byte s p
 past-end s p h = sym (List·getD-eq-default s 0 h)
 
--- ---- a header and a body
+-- ---- a body
 
 module _ (s : Bytes) (at : ℕ) where
-  pub head-room : {f : Bool} → f ≡ hasHead s at → f ≡ true → at + 3 ≤ length s
-  unfolding hasHead
-  head-room e f = leb-true (at + 3) (length s) (sym e ∙ f)
-
   pub body-is : (n : ℕ) → n ≡ num16 s (at + 1) → leb (at + 3 + n) (length s) ≡ hasBody s at
   unfolding hasBody
   body-is n e = ap (λ (k : ℕ). leb (at + 3 + k) (length s)) e
@@ -150,50 +148,51 @@ module _ (t b l h : ℕ) where
   no-limit a = rw (lt-leb 1 t a)
 
   module _ (t1 : 1 ≤ t) where
-    pub limit-great : 1000000 < t → false ≡ headerFits t b l h
+    pub limit-great : greatestLimit < t → false ≡ headerFits t b l h
     unfolding headerFits
-    limit-great a = rw (le-leb 1 t t1, lt-leb t 1000000 a)
+    limit-great a = rw (le-leb 1 t t1, lt-leb t greatestLimit a)
 
-    module _ (t2 : t ≤ 1000000) where
+    module _ (t2 : t ≤ greatestLimit) where
       pub no-budget : b < 1 → false ≡ headerFits t b l h
       unfolding headerFits
-      no-budget a = rw (le-leb 1 t t1, le-leb t 1000000 t2, lt-leb 1 b a)
+      no-budget a = rw (le-leb 1 t t1, le-leb t greatestLimit t2, lt-leb 1 b a)
 
       module _ (b1 : 1 ≤ b) where
-        pub budget-great : 10000000 < b → false ≡ headerFits t b l h
+        pub budget-great : greatestBudget < b → false ≡ headerFits t b l h
         unfolding headerFits
-        budget-great a = rw (le-leb 1 t t1, le-leb t 1000000 t2, le-leb 1 b b1, lt-leb b 10000000 a)
+        budget-great a = rw (le-leb 1 t t1, le-leb t greatestLimit t2, le-leb 1 b b1, lt-leb b greatestBudget a)
 
-        module _ (b2 : b ≤ 10000000) where
+        module _ (b2 : b ≤ greatestBudget) where
           pub label-reversed : h < l → false ≡ headerFits t b l h
           unfolding headerFits
-          label-reversed a = rw (le-leb 1 t t1, le-leb t 1000000 t2, le-leb 1 b b1, le-leb b 10000000 b2, lt-leb l h a)
+          label-reversed a = rw (le-leb 1 t t1, le-leb t greatestLimit t2, le-leb 1 b b1, le-leb b greatestBudget b2, lt-leb l h a)
 
           pub label-in-order : l ≤ h → leb h t ≡ headerFits t b l h
           unfolding headerFits
-          label-in-order a = rw (le-leb 1 t t1, le-leb t 1000000 t2, le-leb 1 b b1, le-leb b 10000000 b2, le-leb l h a)
+          label-in-order a = rw (le-leb 1 t t1, le-leb t greatestLimit t2, le-leb 1 b b1, le-leb b greatestBudget b2, le-leb l h a)
 
-module _ (s : Bytes) {d : End} (e : d ≡ endOf {A = ℕ} (due 1 s 0 (got 0 0))) where
-  pub header-undue : {r : Refusal} {p : ℕ} → d ≡ Refused r p → d ≡ endOf (readHeader s)
-  unfolding readHeader
-  header-undue f = due-bad 1 s 0 e _ f
+module _ (s : Bytes) (at : ℕ) {d : End} (e : d ≡ endOf {A = ℕ} (due 1 s at (got at at))) where
+  pub header-undue : {r : Refusal} {p : ℕ} → d ≡ Refused r p → d ≡ endOf (headerAt s at)
+  unfolding headerAt
+  header-undue f = due-bad 1 s at e _ f
 
-  module _ {p : ℕ} (f : d ≡ At p) {x : End} (g : x ≡ endOf {A = ℕ} (sized s 0 16 true 16)) where
-    pub header-bad : {r : Refusal} {p : ℕ} → x ≡ Refused r p → x ≡ endOf (readHeader s)
-    unfolding readHeader
-    header-bad h = due-on 1 s 0 e f _ (sized-bad s 0 16 g _ _ h)
+  module _ {p : ℕ} (f : d ≡ At p) {x : End} (g : x ≡ endOf {A = ℕ} (sized s at 16 true 16)) where
+    pub header-bad : {r : Refusal} {p : ℕ} → x ≡ Refused r p → x ≡ endOf (headerAt s at)
+    unfolding headerAt
+    header-bad h = due-on 1 s at e f _ (sized-bad s at 16 g _ _ h)
 
-    module _ {q : ℕ} (h : x ≡ At q) (t b l k : ℕ) (et : t ≡ num32 s 3) (eb : b ≡ num32 s 7) (el : l ≡ num32 s 11) (ek : k ≡ num32 s 15) where
-      same : headerFits t b l k ≡ headerFits (num32 s 3) (num32 s 7) (num32 s 11) (num32 s 15)
-      same = λ i. headerFits (et i) (eb i) (el i) (ek i)
+    module _ {q : ℕ} (h : x ≡ At q) {n : Header} (en : n ≡ headerOf (headerIn s at)) where
+      same : headerFits (n .limit .0) (n .budget) (n .«label_low» .0) (n .«label_high» .0) ≡ headerFits (num32 s (at + 3)) (num32 s (at + 7)) (num32 s (at + 11)) (num32 s (at + 15))
+      same = λ i. headerFits (en i .limit .0) (en i .budget) (en i .«label_low» .0) (en i .«label_high» .0)
 
-      pub header-yes : {o : Bool} → o ≡ headerFits t b l k → o ≡ true → At q ≡ endOf (readHeader s)
-      unfolding readHeader
-      header-yes u v = due-on 1 s 0 e f _ (sized-yes s 0 16 g h _ _ (sym same ∙ sym u ∙ v))
+      module _ {o : Bool} (u : o ≡ headerFits (n .limit .0) (n .budget) (n .«label_low» .0) (n .«label_high» .0)) where
+        pub header-yes : o ≡ true → At q ≡ endOf (headerAt s at)
+        unfolding headerAt
+        header-yes v = due-on 1 s at e f _ (sized-yes s at 16 g h _ _ (sym same ∙ sym u ∙ v))
 
-      pub header-no : {o : Bool} → o ≡ headerFits t b l k → o ≡ false → Refused OffRange 0 ≡ endOf (readHeader s)
-      unfolding readHeader
-      header-no u v = due-on 1 s 0 e f _ (sized-no s 0 16 g h _ _ (sym same ∙ sym u ∙ v))
+        pub header-no : o ≡ false → Refused OffRange at ≡ endOf (headerAt s at)
+        unfolding headerAt
+        header-no v = due-on 1 s at e f _ (sized-no s at 16 g h _ _ (sym same ∙ sym u ∙ v))
 
 -- ---- a number of names
 

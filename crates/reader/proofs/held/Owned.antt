@@ -22,11 +22,15 @@ use denote.Ref.{RefT}
 use denote.Signature.{namedLft}
 use denote.Slice.{sliceVal, ShrSlice}
 use denote.Steps.{nothing, owned}
+use denote.Enum.Laws as EL
 use denote.Struct.Declared.{Declared}
 use denote.Struct.Laws as LL
 use denote.Struct.Rest.{all-own, ownAt, rest, own-open, own-out, own-shut}
 use denote.Struct.Values.{Values}
+use Rattle.reader.specs.declared.parts.Progress.{Progress}
 use Rattle.reader.specs.declared.held.Reader.{Reader}
+use Rattle.reader.proofs.parts.Progress as P
+use Rattle.reader.proofs.parts.Progress.Laws as P′
 use Rattle.reader.proofs.held.Reader as T
 use Rattle.reader.proofs.held.Reader.Laws as T′
 
@@ -43,6 +47,10 @@ laws κs = T′.the-laws (namedLft 1 0 tt κs)
 -- the machine value of a slice
 abbrev pub fat-pointer : RefT (List ℕ) → Val
 fat-pointer s = sliceVal (s .ptr) (length (s .now))
+
+-- the machine value of what was read so far
+abbrev pub progress-val : Progress → Val
+progress-val m = EL.val P.the-type P′.the-laws m
 
 module _ (κ : Lft) where
   -- what a reader and a slice own

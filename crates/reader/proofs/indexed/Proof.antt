@@ -19,23 +19,11 @@ refused-requires c κs = search needs
 enum-known-end-2 : tie.Need-enum-known-end-2
 enum-known-end-2 c = search needs
 
-num32-at-requires : tie.Need-num32-at-requires
-num32-at-requires c κs = search needs
-
-num32-at-requires-2 : tie.Need-num32-at-requires-2
-num32-at-requires-2 c κs = search needs
-
-num32-at-requires-3 : tie.Need-num32-at-requires-3
-num32-at-requires-3 c κs = search needs
-
-num32-at-requires-4 : tie.Need-num32-at-requires-4
-num32-at-requires-4 c κs = search needs
-
 returns : tie.Need-returns
-returns c = index-failed _ _ _ _ _ _ (c .before .before .before .before .before .read-threads .ensures) (c .before .before .end .given .1) (c .refused .ensures)
+returns c = index-failed _ _ _ _ _ _ _ (c .before .before .before .before .before .read-threads .ensures) (c .before .before .end .given .1) (c .refused .ensures)
 
 returns-2 : tie.Need-returns-2
-returns-2 c = index-found _ _ _ _ _ _ (c .before .before .before .before .before .before .before .before .before .read-threads .ensures) (c .before .before .before .before .before .before .end2 .given .1) _ _ _ _ (c .before .before .before .before .num32-at .ensures) (c .before .before .before .num32-at2 .ensures) (c .before .before .num32-at3 .ensures) (c .before .num32-at4 .ensures)
+returns-2 c = index-found _ _ _ _ _ _ _ (c .before .before .before .before .before .before .before .before .read-threads .ensures) (c .before .before .before .before .before .end2 .given .1)
 
 pub indexed-spec : {M : Type 1} → statement M
 indexed-spec =
@@ -46,9 +34,5 @@ indexed-spec =
     enum-known-end
     refused-requires
     enum-known-end-2
-    num32-at-requires
-    num32-at-requires-2
-    num32-at-requires-3
-    num32-at-requires-4
     returns
     returns-2)

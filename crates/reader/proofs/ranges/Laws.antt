@@ -4,7 +4,7 @@ use mathlib.Core.Bool.{Bool, true, false, not}
 use mathlib.Core.List.{List, [], _∷_, _++_}
 use Prim.Native.Nat.{ℕ, zero, suc, _+_, _-_, _<_, _≤_}
 use native.Mathlib.Omega.{arith}
-use lib.Dec.{leb, eqb}
+use lib.Dec.{eqb}
 use lib.IntN.{ℤ}
 use lib.Signed.{leZ}
 use lib.ListN.{length}
@@ -18,10 +18,9 @@ use Rattle.rules.specs.Constants.{mostVariables}
 use Rattle.rules.specs.Refusal as R
 use Rattle.rules.specs.Refusal.{short, outOfTurn}
 use Rattle.rules.specs.Interval.{Interval}
-use Rattle.rules.specs.Format.{Bytes, byte, int32, Got, bad, got, andThen, hasHead, due, sized, readRange, Here, wrong, more, done, variableHere, readVariables, readRegisters}
+use Rattle.rules.specs.Format.{Bytes, byte, int32, bad, got, andThen, hasHead, due, sized, readRange, wrong, more, done, variableHere, readVariables, readRegisters}
 use Rattle.refusal.specs.declared.Refusal.{Refusal}
 use Rattle.refusal.specs.declared.Refusal.the-variants.{Short, OutOfTurn, OffRange}
-use Rattle.refusal.specs.Shape.{ruleOf}
 use Rattle.reader.specs.declared.outcome.End.{End}
 use Rattle.reader.specs.declared.outcome.End.the-variants.{At, Refused}
 use Rattle.reader.specs.declared.outcome.Next.{Next}

@@ -1,11 +1,11 @@
 -- What a statement that was read says of the bytes at its place: whether it is halt, and where it may jump. So closing a
 -- thread can go by the places of its statements.
-use mathlib.Core.Path.{_≡_, refl, ap, subst, _∙_}
+use mathlib.Core.Path.{_≡_, refl, ap, _∙_}
 use mathlib.Core.Bool.{Bool, true, false}
 use mathlib.Core.List.{List, [], _∷_}
 use Prim.Native.Nat.{ℕ, zero, suc, _+_, _≤_}
 use native.Mathlib.Omega.{arith}
-use lib.Dec.{T, leb, ltb, eqb, leb→le}
+use lib.Dec.{leb, ltb, eqb, leb→le}
 use lib.ListN.{length}
 use Rattle.rules.specs.Base.{if_then_else_, Each, nil, _&_}
 use Rattle.rules.specs.Refusal as R
@@ -16,7 +16,6 @@ use Rattle.rules.specs.Format.{Bytes, byte, num16, Got, bad, got, need, mapGot,
 use Rattle.rules.proofs.Format.{If, need-if, map-if, many-if}
 use Rattle.refusal.specs.declared.Refusal.the-variants.{NoSuchName, NoHalt}
 use Rattle.refusal.specs.Shape.{refusalOf}
-use Rattle.reader.specs.declared.outcome.End.{End}
 use Rattle.reader.specs.declared.outcome.End.the-variants.{At, Refused}
 use Rattle.reader.specs.Outcome.{endOf}
 use Rattle.reader.specs.Index.{targetAt, targetsAt, lastAt, placesOf}

@@ -1,6 +1,6 @@
 -- A thread's statements and the table of their places.
 use mathlib.Core.Path.{_≡_, refl, sym, ap, subst, _∙_}
-use mathlib.Core.List.{List, [], _∷_, _++_, map}
+use mathlib.Core.List.{List, []}
 use Prim.Native.Nat.{ℕ, _+_, _≤_}
 use native.Mathlib.Omega.{arith}
 use lib.ListN.{length, set}
@@ -8,7 +8,7 @@ use lib.Seq.{sets}
 use Rattle.rules.specs.Constants.{mostStatements}
 use Rattle.rules.specs.Refusal.{short, badLength, offRange}
 use Rattle.rules.specs.Program.{Statement}
-use Rattle.rules.specs.Format.{Bytes, Got, bad, got, Here, Names, readContents, readStatement, statementHere, readStatements}
+use Rattle.rules.specs.Format.{Bytes, Got, bad, got, Names, readContents, readStatement, statementHere, readStatements}
 use Rattle.rules.proofs.Format.{If, need-if}
 use Rattle.refusal.specs.declared.Refusal.{Refusal}
 use Rattle.refusal.specs.declared.Refusal.the-variants.{TooMany}

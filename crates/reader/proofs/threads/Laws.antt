@@ -1,18 +1,17 @@
 -- A thread, as the code reads it: its field, its registers, its statements, its closing.
 use mathlib.Core.Path.{_≡_, refl, sym, ap, subst, _∙_}
 use mathlib.Core.List.{List, [], _∷_, _++_}
-use Prim.Native.Nat.{ℕ, zero, suc, _+_, _<_, _≤_}
+use Prim.Native.Nat.{ℕ, zero, suc, _+_, _≤_}
 use native.Mathlib.Omega.{arith}
 use lib.Dec.{T, leb, eqb, leb→le}
 use lib.ListN.{length, take, drop, length-append}
 use lib.Seq.{sets, sets-eq, slice, drop-at, take-at, length-take-le, length-sets}
 use Rattle.rules.specs.Base.{Each}
 use Rattle.rules.specs.Constants.{mostRegisters, mostStatements}
-use Rattle.rules.specs.Refusal as R
 use Rattle.rules.specs.Refusal.{short, badLength, offRange}
 use Rattle.rules.specs.Interval.{Interval}
 use Rattle.rules.specs.Program.{Statement, Thread}
-use Rattle.rules.specs.Format.{Bytes, byte, num16, Got, bad, got, need, andThen, Names, sized, hasBody, due, readRange, readRegisters, readStatements, close, readThread}
+use Rattle.rules.specs.Format.{Bytes, byte, num16, Got, bad, got, andThen, Names, sized, hasBody, due, readRange, readRegisters, readStatements, close, readThread}
 use Rattle.rules.proofs.Format.{If, need-if, then-if, then-any}
 use Rattle.refusal.specs.declared.Refusal.{Refusal}
 use Rattle.refusal.specs.Shape.{refusalOf, ruleOf}

@@ -1,20 +1,17 @@
 -- All threads, and the two tables of an index: the places of their statements and an entry for each.
 use mathlib.Core.Path.{_≡_, refl, sym, ap, subst, _∙_}
 use mathlib.Core.List.{List, [], _∷_, _++_, map}
-use Prim.Native.Nat.{ℕ, zero, suc, _+_, _-_, _*_, _<_, _≤_}
+use Prim.Native.Nat.{ℕ, suc, _+_, _-_, _*_, _≤_}
 use native.Mathlib.Omega.{arith}
-use lib.Dec.{eqb}
 use lib.ListN.{length, set, replicate}
 use lib.Seq.{sets, length-sets}
 use borrow.Author.Tests.{eq-eqb, ne-eqb}
-use Rattle.rules.specs.Base.{if_then_else_}
-use Rattle.rules.specs.Constants.{mostRegisters, mostThreads, mostStatements}
-use Rattle.rules.specs.Program.{Statement, Thread}
-use Rattle.rules.specs.Format.{Bytes, byte, Got, bad, got, Here, more, done, readThread, threadHere, readThreads}
+use Rattle.rules.specs.Constants.{mostThreads, mostStatements}
+use Rattle.rules.specs.Program.{Thread}
+use Rattle.rules.specs.Format.{Bytes, byte, Got, bad, got, readThread, threadHere, readThreads}
 use Rattle.refusal.specs.declared.Refusal.{Refusal}
 use Rattle.refusal.specs.declared.Refusal.the-variants.{TooMany}
 use Rattle.refusal.specs.Shape.{refusalOf, ruleOf}
-use Rattle.reader.specs.declared.outcome.Next.{Next}
 use Rattle.reader.specs.declared.outcome.Next.the-variants.{More, Done}
 use Rattle.reader.specs.declared.outcome.Count.{Count}
 use Rattle.reader.specs.declared.outcome.Count.the-variants.{Found, Failed}

@@ -1,14 +1,15 @@
 -- `reader_main::put_thread` meets its contract. Assumes nothing.
 use Prim.Native.Nat.{_-_, _≤_}
+use Rattle.rules.specs.Constants.{mostStatements}
 use borrow.Author.Needs.{needs}
 use Rattle.reader_main.proofs.put_thread.Statement.{statement}
 use Rattle.reader_main.proofs.put_thread.Tie as tie
 
 abbrev Inv-loop : tie.InvT-loop
-Inv-loop sheet t x n k₀ k = k ≤ 64
+Inv-loop sheet t x n k₀ k = k ≤ mostStatements
 
 abbrev μ-loop : tie.MeasureT-loop
-μ-loop sheet t x n k₀ k = 64 - k
+μ-loop sheet t x n k₀ k = mostStatements - k
 
 mul-e : tie.Need-mul-e Inv-loop μ-loop
 mul-e c = search needs

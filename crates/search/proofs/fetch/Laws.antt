@@ -11,6 +11,7 @@ use Rattle.rules.specs.Constants.{mostThreads, mostStatements}
 use Rattle.rules.specs.Program as R
 use Rattle.rules.specs.Program.{isHalt, noStatement}
 use Rattle.rules.specs.Format.{Bytes, Names}
+use Rattle.reader.specs.Ticks.{tick}
 use Rattle.reader.specs.Index.{noEntry}
 use Rattle.reader.specs.Decoded.{statementAt, statementOf, actionOf}
 use Rattle.reader.specs.Facts.{threadIn, statementIn, StatementFacts, Targets}
@@ -57,7 +58,7 @@ not-halt : {A : Type 0} → isHalt R.halt ≡ false → A
 unfolding isHalt
 not-halt h = let z : _≡_ {A = ℕ} 0 1 = cc in absurd (omega arith)
 
-pub none-fetches : (s : Bytes) (ns : Names) (at : ℕ) → Fetches s ns at noStatement (record { place = 0; least = 0; greatest = 0; action = Halt })
+pub none-fetches : (s : Bytes) (ns : Names) (at : ℕ) → Fetches s ns at noStatement (record { place = 0; least = tick 0; greatest = tick 0; action = Halt })
 unfolding actionOf
 none-fetches s ns at = record {
   place = refl;
@@ -73,15 +74,15 @@ none-fetches s ns at = record {
   inside = λ h. not-halt h;
 }
 
-pub at-fetches : (s : Bytes) (place : ℕ) (r : Statement) → r ≡ statementAt s place → r .least < 65536 → r .greatest < 65536
+pub at-fetches : (s : Bytes) (place : ℕ) (r : Statement) → r ≡ statementAt s place → r .least .0 < 65536 → r .greatest .0 < 65536
     → (ns : Names) (at : ℕ) (x : R.Statement) → place ≡ x .place → at < mostStatements → StatementFacts ns s x → Targets mostStatements (x .action)
     → Fetches s ns at x (record { place = place; least = r .least; greatest = r .greatest; action = r .action })
 at-fetches s place r e l g ns at x p h f w =
     let same : r ≡ statementOf s x = e ∙ ap (statementAt s) p ∙ f .decoded in
     record {
       place = p;
-      least = ap (λ (y : Statement). y .least) same;
-      greatest = ap (λ (y : Statement). y .greatest) same;
+      least = ap (λ (y : Statement). y .least .0) same;
+      greatest = ap (λ (y : Statement). y .greatest .0) same;
       least-small = l;
       greatest-small = g;
       action = ap (λ (y : Statement). y .action) same;

@@ -21,6 +21,8 @@ use Rattle.reader.specs.Facts.{threadIn, statementIn, Named}
 use Rattle.reader.specs.declared.decoding.Action.{Action}
 use Rattle.reader.specs.declared.decoding.Action.the-variants.{Halt, Skip, Assign, Branch, Store, Load, Unlock, Lock}
 use Rattle.reader.proofs.decoding.Action as action
+use Rattle.reader.specs.declared.ticks.Time.{Time}
+use Rattle.reader.specs.Ticks.{tick}
 use Rattle.state.specs.declared.State.{State}
 use Rattle.state.specs.Shape.{ownerOf, threadOf, sizesOf, stateOf}
 use Rattle.state.specs.Access.{threadAt, ownerAt}
@@ -81,14 +83,14 @@ waits-same os cells ns w t at e y p a b (R.lock l) n = ap (λ (q : Owner). not (
 -- ---- one more thread, which halts or is live
 
 bound-more : (v : Live) (vs : List Live) (live : Bool) (bound due : ℕ) → live ≡ anyLive vs → bound ≡ boundOf vs → due ≡ v .here .high + v .statement .greatest
-    → (if live then min due bound else due) ≡ turnBound v vs
+    → (if live then tick (min due bound) else tick due) .0 ≡ turnBound v vs
 unfolding turnBound
 bound-more v [] live bound due l b d = rw l d
 bound-more v (w ∷ ws) live bound due l b d = rw l (λ i. min (d i) (b i))
 
 thread-more : (os : List Owner) (v : Live) (vs : List Live) (ys : List ThreadState) (a : Survey) (h w : Bool) (due : ℕ) → Surveys os vs ys a
     → w ≡ waits os v → due ≡ v .here .high + v .statement .greatest
-    → Surveys os (if h then vs else v ∷ vs) (v .here ∷ ys) (if h then addClock a (v .here .low) (v .here .high) else addLive (addClock a (v .here .low) (v .here .high)) due w)
+    → Surveys os (if h then vs else v ∷ vs) (v .here ∷ ys) (if h then addClock a (tick (v .here .low)) (tick (v .here .high)) else addLive (addClock a (tick (v .here .low)) (tick (v .here .high))) (tick due) w)
 unfolding all greatestLow greatestHigh
 thread-more os v vs ys a true w due i e d = record {
   live-is = i .live-is;
@@ -100,7 +102,7 @@ thread-more os v vs ys a true w due i e d = record {
 thread-more os v vs ys a false w due i e d = record {
   live-is = refl;
   waiting-is = λ j. e j && i .waiting-is j;
-  bound-is = bound-more v vs (a .live) (a .bound) due (i .live-is) (i .bound-is) d;
+  bound-is = bound-more v vs (a .live) (a .bound .0) due (i .live-is) (i .bound-is) d;
   low-is = ap (max (v .here .low)) (i .low-is);
   high-is = ap (max (v .here .high)) (i .high-is);
 }
@@ -119,7 +121,7 @@ module _ (g : Program) (s : State) (few : length (g .threads) ≤ mostThreads) (
   unfolding sizesOf
   owner-there l h = state-owner (sizesOf g) s l h
 
-  from-end : (t : ℕ) → length (g .threads) ≤ t → SurveyedFrom g s t (record { live = false; waiting = true; bound = 0; low = 0; high = 0 })
+  from-end : (t : ℕ) → length (g .threads) ≤ t → SurveyedFrom g s t (record { live = false; waiting = true; bound = tick 0; low = tick 0; high = tick 0 })
   unfolding liveFrom all greatestLow greatestHigh
   from-end t h =
       let end : length (stateOf (sizesOf g) s .threads) ≤ t = omega (arith, state-threads) in
@@ -152,9 +154,9 @@ module _ (g : Program) (s : State) (few : length (g .threads) ≤ mostThreads) (
       let waits-is : waitsAt t (f .action) (s .owners) ≡ waits os v =
       ap (λ (k : Action). waitsAt t k (s .owners)) (w .action)
       ∙ waits-same os (s .owners) (namesOf g t) owner-there t (st .place + 9) (bodyEnd sheet (st .place)) y (st .place) (st .least) (st .greatest) (st .action) (w .named) in
-      let due-is : x .clock .high .0 + f .greatest ≡ y .high + st .greatest = ap (λ (k : ℕ). x .clock .high .0 + k) (w .greatest) in
+      let due-is : x .clock .high .0 + f .greatest .0 ≡ y .high + st .greatest = ap (λ (k : ℕ). x .clock .high .0 + k) (w .greatest) in
       let made : Surveys os (if halts (f .action) then vs else v ∷ vs) (y ∷ rest) b =
-      thread-more os v vs rest a (halts (f .action)) (waitsAt t (f .action) (s .owners)) (x .clock .high .0 + f .greatest) i waits-is due-is in
+      thread-more os v vs rest a (halts (f .action)) (waitsAt t (f .action) (s .owners)) (x .clock .high .0 + f .greatest .0) i waits-is due-is in
       subst (λ (l : List ThreadState). Surveys os (liveFrom t (drop t (g .threads)) l) l b) (sym state-is)
       (subst (λ (l : List R.Thread). Surveys os (liveFrom t l (y ∷ rest)) (y ∷ rest) b) (sym code-is)
       (subst (λ (k : Bool). Surveys os (if k then vs else v ∷ vs) (y ∷ rest) b) halts-is made))
@@ -167,7 +169,7 @@ pub record Surveyed (g : Program) (s : State) (t : ℕ) (a : Survey) : Type 0 wh
   pub found : Surveys (stateOf (sizesOf g) s .owners) (liveAfter g (stateOf (sizesOf g) s) t) (drop t (stateOf (sizesOf g) s .threads)) a
 
 module _ {sheet : Bytes} {p : Plan} {places : List ℕ} {s : State} (w : Ready sheet p places) (u : Sound s) where
-  pub survey-start : Surveyed (programIn sheet) s (p .threads) (record { live = false; waiting = true; bound = 0; low = 0; high = 0 })
+  pub survey-start : Surveyed (programIn sheet) s (p .threads) (record { live = false; waiting = true; bound = tick 0; low = tick 0; high = tick 0 })
   survey-start =
       let counts = w .threads in
       record { inside = omega arith; found = from-end (programIn sheet) s (w .facts .threads-few) (u .four) (p .threads) (omega arith) }
@@ -195,11 +197,11 @@ survey-done {g} {s} {t} {a} i h = let end : t ≡ 0 = omega arith in subst (λ (
 -- ---- the earliest ticks
 
 earliest-same : {sheet : Bytes} {ns : Names} {at : ℕ} {x : R.Statement} {f : Fetched} (low : ℕ) → Fetches sheet ns at x f
-    → earliestOf (halts (f .action)) low (f .least) ≡ earliestOf (isHalt (x .action)) low (x .least)
+    → earliestOf (halts (f .action)) low (f .least .0) ≡ earliestOf (isHalt (x .action)) low (x .least)
 earliest-same {sheet} {ns} {at} {x} low w =
     λ i. earliestOf ((ap halts (w .action) ∙ halts-same (x .place + 9) (bodyEnd sheet (x .place)) (x .action)) i) low (w .least i)
 
-pub earliest-start : (g : Program) (s : State) (t : ℕ) (ticks : List ℕ) → length (g .threads) ≤ t → EarliestFrom g s t ticks
+pub earliest-start : (g : Program) (s : State) (t : ℕ) (ticks : List Time) → length (g .threads) ≤ t → EarliestFrom g s t ticks
 earliest-start g s t ticks h k l r = absurd (omega arith)
 
 -- a number from t - 1 on is that one, or from t on
@@ -211,10 +213,10 @@ at-or-above zero (suc (suc t)) l h f g = absurd (omega arith)
 at-or-above (suc k) (suc (suc t)) l h f g = at-or-above k (suc t) (omega arith) (omega arith) (λ e. f (omega arith)) (λ q. g (omega arith))
 
 -- the thread before t
-pub earliest-again : (g : Program) (s : State) (t : ℕ) (ticks : List ℕ) (x low : ℕ) {sheet : Bytes} {f : Fetched} → t - 1 < length ticks → 0 < t
+pub earliest-again : (g : Program) (s : State) (t : ℕ) (ticks : List Time) (x : Time) (low : ℕ) {sheet : Bytes} {f : Fetched} → t - 1 < length ticks → 0 < t
     → Fetches sheet (namesOf g (t - 1)) (threadAt s (t - 1) .at) (statementIn g (t - 1) (threadAt s (t - 1) .at)) f → low ≡ threadAt s (t - 1) .clock .low .0
-    → x ≡ earliestOf (halts (f .action)) low (f .least) → EarliestFrom g s t ticks → EarliestFrom g s (t - 1) (set ticks (t - 1) x)
+    → x .0 ≡ earliestOf (halts (f .action)) low (f .least .0) → EarliestFrom g s t ticks → EarliestFrom g s (t - 1) (set ticks (t - 1) x)
 earliest-again g s t ticks x low {sheet} {f} room more w el ex before k l r =
-    at-or-above k t l more (λ e. ap (λ (i : ℕ). getD (set ticks (t - 1) x) i 0) e ∙ getD-set-same ticks (t - 1) x 0 room
-    ∙ ex ∙ ap (λ (n : ℕ). earliestOf (halts (f .action)) n (f .least)) el ∙ earliest-same (threadAt s (t - 1) .clock .low .0) w ∙ ap (earliestAt g s) (sym e))
-    (λ q. getD-set-other ticks (t - 1) k x 0 (λ e. omega arith) ∙ before k q r)
+    at-or-above k t l more (λ e. ap (λ (i : ℕ). getD (set ticks (t - 1) x) i (tick 0) .0) e ∙ ap (λ (y : Time). y .0) (getD-set-same ticks (t - 1) x (tick 0) room)
+    ∙ ex ∙ ap (λ (n : ℕ). earliestOf (halts (f .action)) n (f .least .0)) el ∙ earliest-same (threadAt s (t - 1) .clock .low .0) w ∙ ap (earliestAt g s) (sym e))
+    (λ q. ap (λ (y : Time). y .0) (getD-set-other ticks (t - 1) k x (tick 0) (λ e. omega arith)) ∙ before k q r)

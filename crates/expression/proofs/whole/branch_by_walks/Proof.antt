@@ -25,7 +25,7 @@ left-in-requires-2 c κs = search needs
 
 returns : tie.Need-returns
 returns c = let arg = c .before .before .before .before .before .before .before .args in
-    record { check = c .before .before .before .before .check-in .ensures ∙ ap resultIn (c .before .before .before .before .before .all-parts .ensures); yes = c .before .before .left-in .ensures (arg .n) ∙ ap leftIn (c .before .before .before .narrow-yes .ensures); no = c .left-in2 .ensures (arg .n) ∙ ap leftIn (c .before .narrow-no .ensures) }
+    record { check = c .before .before .before .before .check-in .ensures ∙ ap resultIn (c .before .before .before .before .before .all-parts .ensures); yes = c .before .before .left-in .ensures (arg .n) ∙ ap leftIn (c .before .before .before .narrow-yes .ensures); no = c .left-in2 .ensures (arg .n) ∙ ap leftIn (c .before .narrow-no .ensures); yes-others = tt; no-others = tt }
 
 pub branch-by-walks-spec : {M : Type 1} → statement M
 branch-by-walks-spec =

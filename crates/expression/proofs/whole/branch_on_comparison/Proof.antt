@@ -32,6 +32,8 @@ returns c = let arg = c .before .before .before .before .before .args in
       check = c .unread-branch .ensures .0 ∙ ap resultIn (sides-unread (arg .o) (arg .s .now) (arg .end) (arg .n) (arg .at) (arg .depth) (regsOf (arg .n) (arg .regs)) (sym (ap evaluatedOf (c .before .enum-told .given .1)) ∙ c .before .before .before .evaluate .ensures));
       yes = c .unread-branch .ensures .1 .0 (arg .n) ∙ ap leftIn (comparison-unread true (arg .o) (arg .s .now) (arg .end) (arg .n) (arg .at) (arg .depth) (regsOf (arg .n) (arg .regs)) (sym (ap evaluatedOf (c .before .enum-told .given .1)) ∙ c .before .before .before .evaluate .ensures));
       no = c .unread-branch .ensures .1 .1 (arg .n) ∙ ap leftIn (comparison-unread false (arg .o) (arg .s .now) (arg .end) (arg .n) (arg .at) (arg .depth) (regsOf (arg .n) (arg .regs)) (sym (ap evaluatedOf (c .before .enum-told .given .1)) ∙ c .before .before .before .evaluate .ensures));
+      yes-others = tt;
+      no-others = tt;
     }
 
 evaluate-requires-2 : tie.Need-evaluate-requires-2
@@ -52,6 +54,8 @@ returns-2 c = let arg = c .before .before .before .before .before .before .befor
       check = c .unread-branch2 .ensures .0 ∙ ap resultIn (sides-at (arg .o) (arg .s .now) (arg .end) (arg .n) (arg .at) (arg .depth) (regsOf (arg .n) (arg .regs)) _ _ unread (sym (ap evaluatedOf (c .before .before .before .before .before .x .given .1)) ∙ c .before .before .before .before .before .before .before .evaluate .ensures) (sym (ap evaluatedOf (c .before .enum-told2 .given .1)) ∙ c .before .before .before .evaluate2 .ensures));
       yes = c .unread-branch2 .ensures .1 .0 (arg .n) ∙ ap leftIn (comparison-at true (arg .o) (arg .s .now) (arg .end) (arg .n) (arg .at) (arg .depth) (regsOf (arg .n) (arg .regs)) _ _ unread (sym (ap evaluatedOf (c .before .before .before .before .before .x .given .1)) ∙ c .before .before .before .before .before .before .before .evaluate .ensures) (sym (ap evaluatedOf (c .before .enum-told2 .given .1)) ∙ c .before .before .before .evaluate2 .ensures));
       no = c .unread-branch2 .ensures .1 .1 (arg .n) ∙ ap leftIn (comparison-at false (arg .o) (arg .s .now) (arg .end) (arg .n) (arg .at) (arg .depth) (regsOf (arg .n) (arg .regs)) _ _ unread (sym (ap evaluatedOf (c .before .before .before .before .before .x .given .1)) ∙ c .before .before .before .before .before .before .before .evaluate .ensures) (sym (ap evaluatedOf (c .before .enum-told2 .given .1)) ∙ c .before .before .before .evaluate2 .ensures));
+      yes-others = tt;
+      no-others = tt;
     }
 
 side-at-requires : tie.Need-side-at-requires
@@ -86,6 +90,8 @@ returns-3 c = let arg = c .before .before .before .before .before .before .befor
       no = c .compare-readings2 .ensures
           ∙ ap₂ (λ (l m : Side). compared (comparisonRule false (arg .o) (sideOf (arg .n) l) (sideOf (arg .n) m) (regsOf (arg .n) (arg .regs))) (resultOf (c .before .before .before .before .before .before .before .before .before .before .before .before .x .given .0 .0)) (resultOf (c .before .before .before .before .before .before .before .before .y .given .0 .0))) (c .before .before .before .before .before .before .side-at .ensures) (c .before .before .before .before .before .side-at2 .ensures)
           ∙ ap leftIn (comparison-at false (arg .o) (arg .s .now) (arg .end) (arg .n) (arg .at) (arg .depth) (regsOf (arg .n) (arg .regs)) _ _ _ (sym (ap evaluatedOf (c .before .before .before .before .before .before .before .before .before .before .before .before .x .given .1)) ∙ c .before .before .before .before .before .before .before .before .before .before .before .before .before .before .evaluate .ensures) (sym (ap evaluatedOf (c .before .before .before .before .before .before .before .before .y .given .1)) ∙ c .before .before .before .before .before .before .before .before .before .before .evaluate2 .ensures));
+      yes-others = tt;
+      no-others = tt;
     }
 
 pub branch-on-comparison-spec : {M : Type 1} → statement M

@@ -1,7 +1,7 @@
 -- `reader::fields::due_at` meets its contract. Assumes nothing.
 use borrow.Author.Needs.{needs}
 use Rattle.reader.proofs.fields.Laws.{due-is, due-other, due-short}
-use Rattle.reader.proofs.held.Laws.{field-whole, field-tag, field-not}
+use Rattle.reader.proofs.heads.Laws.{field-whole, field-tag, field-not}
 use Rattle.reader.proofs.fields.due_at.Statement.{statement}
 use Rattle.reader.proofs.fields.due_at.Tie as tie
 

@@ -1,7 +1,7 @@
 -- `reader::fields::fixed_end` meets its contract. Assumes nothing.
 use borrow.Author.Needs.{needs}
 use Rattle.reader.proofs.fields.Laws.{fixed-short, fixed-whole, fixed-length}
-use Rattle.reader.proofs.held.Laws.{field-length, field-body}
+use Rattle.reader.proofs.heads.Laws.{field-length, field-body}
 use Rattle.reader.proofs.fields.fixed_end.Statement.{statement}
 use Rattle.reader.proofs.fields.fixed_end.Tie as tie
 

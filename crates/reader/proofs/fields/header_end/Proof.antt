@@ -15,10 +15,10 @@ enum-told-2 : tie.Need-enum-told-2
 enum-told-2 c = search needs
 
 returns : tie.Need-returns
-returns c = header-undue _ (c .before .before .due-at .ensures) (c .enum-told2 .given .1)
+returns c = header-undue _ _ (c .before .before .due-at .ensures) (c .enum-told2 .given .1)
 
 fixed-end-requires : tie.Need-fixed-end-requires
-fixed-end-requires c κs = let h = due-room 1 _ 0 (c .before .before .due-at .ensures) (c .enum-told .given .1) in omega arith
+fixed-end-requires c κs = let h = due-room 1 _ _ (c .before .before .due-at .ensures) (c .enum-told .given .1) in (h, search needs)
 
 enum-known-x : tie.Need-enum-known-x
 enum-known-x c = search needs
@@ -27,28 +27,19 @@ enum-told-3 : tie.Need-enum-told-3
 enum-told-3 c = search needs
 
 returns-2 : tie.Need-returns-2
-returns-2 c = header-bad _ (c .before .before .before .before .before .due-at .ensures) (c .before .before .before .enum-told .given .1) (c .before .before .fixed-end .ensures) (c .enum-told3 .given .1)
+returns-2 c = header-bad _ _ (c .before .before .before .before .before .due-at .ensures) (c .before .before .before .enum-told .given .1) (c .before .before .fixed-end .ensures) (c .enum-told3 .given .1)
 
-num32-at-requires : tie.Need-num32-at-requires
-num32-at-requires c κs = let h = sized-room _ _ 16 (c .before .before .before .fixed-end .ensures) (c .before .x .given .1) in omega arith
-
-num32-at-requires-2 : tie.Need-num32-at-requires-2
-num32-at-requires-2 c κs = let h = sized-room _ _ 16 (c .before .before .before .before .fixed-end .ensures) (c .before .before .x .given .1) in omega arith
-
-num32-at-requires-3 : tie.Need-num32-at-requires-3
-num32-at-requires-3 c κs = let h = sized-room _ _ 16 (c .before .before .before .before .before .fixed-end .ensures) (c .before .before .before .x .given .1) in omega arith
-
-num32-at-requires-4 : tie.Need-num32-at-requires-4
-num32-at-requires-4 c κs = let h = sized-room _ _ 16 (c .before .before .before .before .before .before .fixed-end .ensures) (c .before .before .before .before .x .given .1) in omega arith
+header-at-requires : tie.Need-header-at-requires
+header-at-requires c κs = let h = sized-room _ _ 16 (c .before .before .before .fixed-end .ensures) (c .before .x .given .1) in omega arith
 
 header-fits-requires : tie.Need-header-fits-requires
 header-fits-requires c κs = search needs
 
 returns-3 : tie.Need-returns-3
-returns-3 c = header-yes _ (c .before .before .before .before .before .before .before .before .before .before .before .before .due-at .ensures) (c .before .before .before .before .before .before .before .before .before .before .enum-told .given .1) (c .before .before .before .before .before .before .before .before .before .fixed-end .ensures) (c .before .before .before .before .before .before .before .x .given .1) _ _ _ _ (c .before .before .before .before .before .num32-at .ensures) (c .before .before .before .before .num32-at2 .ensures) (c .before .before .before .num32-at3 .ensures) (c .before .before .num32-at4 .ensures) (c .before .header-fits .ensures) (c .if1 .taken)
+returns-3 c = header-yes _ _ (c .before .before .before .before .before .before .before .before .before .due-at .ensures) (c .before .before .before .before .before .before .before .enum-told .given .1) (c .before .before .before .before .before .before .fixed-end .ensures) (c .before .before .before .before .x .given .1) (c .before .before .header-at .ensures) (c .before .header-fits .ensures) (c .if1 .taken)
 
 returns-4 : tie.Need-returns-4
-returns-4 c = header-no _ (c .before .before .before .before .before .before .before .before .before .before .before .before .due-at .ensures) (c .before .before .before .before .before .before .before .before .before .before .enum-told .given .1) (c .before .before .before .before .before .before .before .before .before .fixed-end .ensures) (c .before .before .before .before .before .before .before .x .given .1) _ _ _ _ (c .before .before .before .before .before .num32-at .ensures) (c .before .before .before .before .num32-at2 .ensures) (c .before .before .before .num32-at3 .ensures) (c .before .before .num32-at4 .ensures) (c .before .header-fits .ensures) (c .if1 .left)
+returns-4 c = header-no _ _ (c .before .before .before .before .before .before .before .before .before .due-at .ensures) (c .before .before .before .before .before .before .before .enum-told .given .1) (c .before .before .before .before .before .before .fixed-end .ensures) (c .before .before .before .before .x .given .1) (c .before .before .header-at .ensures) (c .before .header-fits .ensures) (c .if1 .left)
 
 pub header-end-spec : {M : Type 1} → statement M
 header-end-spec =
@@ -62,10 +53,7 @@ header-end-spec =
     enum-known-x
     enum-told-3
     returns-2
-    num32-at-requires
-    num32-at-requires-2
-    num32-at-requires-3
-    num32-at-requires-4
+    header-at-requires
     header-fits-requires
     returns-3
     returns-4)

@@ -1,6 +1,6 @@
 -- `reader::fields::length_at` meets its contract. Assumes nothing.
 use borrow.Author.Needs.{needs}
-use Rattle.reader.proofs.held.Laws.{field-length}
+use Rattle.reader.proofs.heads.Laws.{field-length}
 use Rattle.reader.proofs.fields.length_at.Statement.{statement}
 use Rattle.reader.proofs.fields.length_at.Tie as tie
 

@@ -1,6 +1,7 @@
 -- `reader::fields::open_end` meets its contract. Assumes nothing.
 use borrow.Author.Needs.{needs}
-use Rattle.reader.proofs.fields.Laws.{head-room, open-short}
+use Rattle.reader.proofs.heads.Laws.{head-room}
+use Rattle.reader.proofs.fields.Laws.{open-short}
 use Rattle.reader.proofs.fields.open_end.Statement.{statement}
 use Rattle.reader.proofs.fields.open_end.Tie as tie
 

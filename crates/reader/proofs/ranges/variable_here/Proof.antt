@@ -1,7 +1,7 @@
 -- `reader::ranges::variable_here` meets its contract. Assumes nothing.
 use borrow.Author.Needs.{needs}
 use Rattle.reader.proofs.ranges.Laws.{variable-more, variable-done, variable-wrong, variable-none}
-use Rattle.reader.proofs.held.Laws.{field-whole, field-tag, field-not}
+use Rattle.reader.proofs.heads.Laws.{field-whole, field-tag, field-not}
 use Rattle.reader.proofs.ranges.variable_here.Statement.{statement}
 use Rattle.reader.proofs.ranges.variable_here.Tie as tie
 

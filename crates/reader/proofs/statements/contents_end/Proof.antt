@@ -24,17 +24,17 @@ returns-2 c = contents-code _ _ _ _ (c .before .before .before .length-at .ensur
 length-fits-requires : tie.Need-length-fits-requires
 length-fits-requires c κs = search needs
 
-add-num16-at : tie.Need-add-num16-at
-add-num16-at c = search needs
+add-time16-at : tie.Need-add-time16-at
+add-time16-at c = search needs
 
-num16-at-requires : tie.Need-num16-at-requires
-num16-at-requires c κs = search needs
+time16-at-requires : tie.Need-time16-at-requires
+time16-at-requires c κs = search needs
 
-add-num16-at-2 : tie.Need-add-num16-at-2
-add-num16-at-2 c = search needs
+add-time16-at-2 : tie.Need-add-time16-at-2
+add-time16-at-2 c = search needs
 
-num16-at-requires-2 : tie.Need-num16-at-requires-2
-num16-at-requires-2 c κs = search needs
+time16-at-requires-2 : tie.Need-time16-at-requires-2
+time16-at-requires-2 c κs = search needs
 
 times-fit-requires : tie.Need-times-fit-requires
 times-fit-requires c κs = search needs
@@ -43,10 +43,10 @@ action-end-requires : tie.Need-action-end-requires
 action-end-requires c κs = (c .before .before .before .before .before .before .if2 .left, sym (c .before .before .before .before .before .length-fits .ensures) ∙ c .before .before .before .before .if3 .taken, c .before .before .before .before .before .before .before .before .if1 .left, let h = c .before .before .before .before .before .before .before .before .before .before .before .pre in let k = c .before .before .before .before .before .before .before .before .before .length-at .ensures in omega arith)
 
 returns-3 : tie.Need-returns-3
-returns-3 c = contents-action _ _ _ _ (c .before .before .before .before .before .before .before .before .before .before .length-at .ensures .0) (c .before .before .before .before .before .before .before .before .before .if1 .left) _ (c .before .before .before .before .before .before .before .before .byte-at .ensures .0) (c .before .before .before .before .before .before .before .if2 .left) _ _ (c .before .before .before .before .num16-at .ensures .0) (c .before .before .before .num16-at2 .ensures .0) (c .before .before .before .before .before .before .length-fits .ensures) (c .before .before .before .before .before .if3 .taken) (c .before .before .times-fit .ensures) (c .before .if4 .taken) (c .action-end .ensures)
+returns-3 c = contents-action _ _ _ _ (c .before .before .before .before .before .before .before .before .before .before .length-at .ensures .0) (c .before .before .before .before .before .before .before .before .before .if1 .left) _ (c .before .before .before .before .before .before .before .before .byte-at .ensures .0) (c .before .before .before .before .before .before .before .if2 .left) _ _ (c .before .before .before .before .time16-at .ensures .0) (c .before .before .before .time16-at2 .ensures .0) (c .before .before .before .before .before .before .length-fits .ensures) (c .before .before .before .before .before .if3 .taken) (c .before .before .times-fit .ensures) (c .before .if4 .taken) (c .action-end .ensures)
 
 returns-4 : tie.Need-returns-4
-returns-4 c = contents-times _ _ _ _ (c .before .before .before .before .before .before .before .before .before .length-at .ensures .0) (c .before .before .before .before .before .before .before .before .if1 .left) _ (c .before .before .before .before .before .before .before .byte-at .ensures .0) (c .before .before .before .before .before .before .if2 .left) _ _ (c .before .before .before .num16-at .ensures .0) (c .before .before .num16-at2 .ensures .0) (c .before .before .before .before .before .length-fits .ensures) (c .before .before .before .before .if3 .taken) (c .before .times-fit .ensures) (c .if4 .left)
+returns-4 c = contents-times _ _ _ _ (c .before .before .before .before .before .before .before .before .before .length-at .ensures .0) (c .before .before .before .before .before .before .before .before .if1 .left) _ (c .before .before .before .before .before .before .before .byte-at .ensures .0) (c .before .before .before .before .before .before .if2 .left) _ _ (c .before .before .before .time16-at .ensures .0) (c .before .before .time16-at2 .ensures .0) (c .before .before .before .before .before .length-fits .ensures) (c .before .before .before .before .if3 .taken) (c .before .times-fit .ensures) (c .if4 .left)
 
 returns-5 : tie.Need-returns-5
 returns-5 c = contents-length _ _ _ _ (c .before .before .before .before .before .length-at .ensures .0) (c .before .before .before .before .if1 .left) _ (c .before .before .before .byte-at .ensures .0) (c .before .before .if2 .left) (c .before .length-fits .ensures) (c .if3 .left)
@@ -61,10 +61,10 @@ contents-end-spec =
     byte-at-requires
     returns-2
     length-fits-requires
-    add-num16-at
-    num16-at-requires
-    add-num16-at-2
-    num16-at-requires-2
+    add-time16-at
+    time16-at-requires
+    add-time16-at-2
+    time16-at-requires-2
     times-fit-requires
     action-end-requires
     returns-3

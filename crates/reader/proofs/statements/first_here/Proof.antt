@@ -1,7 +1,7 @@
 -- `reader::statements::first_here` meets its contract. Assumes nothing.
 use borrow.Author.Needs.{needs}
 use Rattle.reader.proofs.statements.Laws.{first-more, first-wrong, first-none}
-use Rattle.reader.proofs.held.Laws.{field-whole, field-tag, field-not}
+use Rattle.reader.proofs.heads.Laws.{field-whole, field-tag, field-not}
 use Rattle.reader.proofs.statements.first_here.Statement.{statement}
 use Rattle.reader.proofs.statements.first_here.Tie as tie
 

@@ -1,7 +1,7 @@
 -- `reader::statements::later_here` meets its contract. Assumes nothing.
 use borrow.Author.Needs.{needs}
 use Rattle.reader.proofs.statements.Laws.{later-end, later-more, later-done, later-wrong, later-none}
-use Rattle.reader.proofs.held.Laws.{field-whole, field-tag, field-not}
+use Rattle.reader.proofs.heads.Laws.{field-whole, field-tag, field-not}
 use Rattle.reader.proofs.statements.later_here.Statement.{statement}
 use Rattle.reader.proofs.statements.later_here.Tie as tie
 

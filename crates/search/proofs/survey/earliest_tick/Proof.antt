@@ -10,11 +10,11 @@ is-halt-requires c κs = search needs
 returns : tie.Need-returns
 returns c = search needs
 
-add-result : tie.Need-add-result
-add-result c = search needs
+tick-after-requires : tie.Need-tick-after-requires
+tick-after-requires c κs = search needs
 
 returns-2 : tie.Need-returns-2
-returns-2 c = rw (sym (c .before .before .before .is-halt .ensures) ∙ c .before .before .if1 .left)
+returns-2 c = rw (sym (c .before .before .is-halt .ensures) ∙ c .before .if1 .left) (c .tick-after .ensures)
 
 pub earliest-tick-spec : {M : Type 1} → statement M
-earliest-tick-spec = tie.close (tie.spec is-halt-requires returns add-result returns-2)
+earliest-tick-spec = tie.close (tie.spec is-halt-requires returns tick-after-requires returns-2)

@@ -10,6 +10,7 @@ use Rattle.state.proofs.Slot.{decode-sound}
 use Rattle.reader.specs.Facts.{statementIn}
 use Rattle.search.specs.Plan.{programIn}
 use Rattle.search.specs.Fetch.{namesOf, Fetches}
+use Rattle.reader.specs.Ticks.{tick}
 use Rattle.search.specs.Survey.{addThread, never, EarliestFrom}
 use Rattle.search.proofs.survey.Laws.{fetched-lock, Surveyed, survey-start, survey-again, survey-done, earliest-start, earliest-again}
 use Rattle.search.proofs.survey.survey_threads.Statement.{statement}
@@ -23,7 +24,7 @@ abbrev μ-loop : tie.MeasureT-loop
 
 loop-holds : tie.Need-loop-holds Inv-loop μ-loop
 loop-holds c = let arg = c .before .args in
-    (survey-start (c .before .pre) (decode-sound (arg .cells .now)), refl, earliest-start (programIn (arg .sheet .now)) (decode (arg .cells .now)) (arg .plan .threads) (replicate mostThreads never) (let n = c .before .pre .threads in omega arith))
+    (survey-start (c .before .pre) (decode-sound (arg .cells .now)), refl, earliest-start (programIn (arg .sheet .now)) (decode (arg .cells .now)) (arg .plan .threads) (replicate mostThreads (tick never)) (let n = c .before .pre .threads in omega arith))
 
 sub-t : tie.Need-sub-t Inv-loop μ-loop
 sub-t c = c .loop-test .taken
@@ -46,8 +47,8 @@ earliest-tick-requires c κs = (c .before .clock-of .ensures .1 .0, c .before .b
 mul-earliest : tie.Need-mul-earliest Inv-loop μ-loop
 mul-earliest c = omega (arith, c .before .before .before .before .before .before .loop .inv .0 .inside, c .before .before .before .before .before .loop-test .taken, c .before .before .before .before .before .before .before .before .pre .facts .threads-few)
 
-array-write-earliest : tie.Need-array-write-earliest Inv-loop μ-loop
-array-write-earliest c = omega (arith, c .before .before .before .before .before .before .loop .inv .0 .inside, c .before .before .before .before .before .loop-test .taken, c .before .before .before .before .before .before .before .before .pre .facts .threads-few)
+array-set-from-earliest : tie.Need-array-set-from-earliest Inv-loop μ-loop
+array-set-from-earliest c = omega (arith, c .before .before .before .before .before .before .loop .inv .0 .inside, c .before .before .before .before .before .loop-test .taken, c .before .before .before .before .before .before .before .before .pre .facts .threads-few)
 
 loop-less : tie.Need-loop-less Inv-loop μ-loop
 loop-less c = let more = c .before .before .before .before .before .loop-test .taken in omega arith
@@ -80,7 +81,7 @@ survey-threads-spec =
     with-thread-requires
     earliest-tick-requires
     mul-earliest
-    array-write-earliest
+    array-set-from-earliest
     loop-less
     loop-again
     returns)

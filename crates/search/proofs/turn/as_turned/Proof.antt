@@ -1,22 +1,17 @@
+-- `search::turn::as_turned` meets its contract. Assumes nothing.
 use borrow.Author.Needs.{needs}
 use Rattle.search.proofs.turn.as_turned.Statement.{statement}
 use Rattle.search.proofs.turn.as_turned.Tie as tie
-use Rattle.search.proofs.turn.as_turned.Reads as reads
-use Rattle.search.proofs.turn.as_turned.Lts as lts
 
--- src/turn.rt:146:21
 enum-known-m : tie.Need-enum-known-m
 enum-known-m c = search needs
 
--- src/turn.rt:147:22
 enum-known-m-2 : tie.Need-enum-known-m-2
 enum-known-m-2 c = search needs
 
--- src/turn.rt:142:1
 returns : tie.Need-returns
 returns c = rw (c .before .m .given .1)
 
--- src/turn.rt:142:1
 returns-2 : tie.Need-returns-2
 returns-2 c = rw (c .before .m2 .given .1)
 

@@ -9,7 +9,7 @@ use Rattle.search.proofs.turn.expand.Statement.{statement}
 use Rattle.search.proofs.turn.expand.Tie as tie
 
 abbrev Inv-loop : tie.InvT-loop
-Inv-loop sheet places plan cells latest bound work₀ height slots earliest made₀ t₀ work made t = Expanding (programIn sheet) (decode cells) latest bound slots work₀ height work made t
+Inv-loop sheet places plan cells latest bound work₀ height slots earliest made₀ t₀ work made t = Expanding (programIn sheet) (decode cells) (latest .0) (bound .0) slots work₀ height work made t
 
 abbrev μ-loop : tie.MeasureT-loop
 μ-loop sheet places plan cells latest bound work₀ height slots earliest made₀ t₀ work made t = t
@@ -17,7 +17,7 @@ abbrev μ-loop : tie.MeasureT-loop
 loop-holds : tie.Need-loop-holds Inv-loop μ-loop
 loop-holds c = let a = c .before .args in
     let g = programIn (a .sheet .now) in
-    expand-start g (decode (a .cells .now)) (a .latest) (a .bound) (a .slots) (a .work .now) (a .height) (a .plan .threads) (c .before .pre .0 .threads) (c .before .pre .1 .1 .1 .1 .1)
+    expand-start g (decode (a .cells .now)) (a .latest .0) (a .bound .0) (a .slots) (a .work .now) (a .height) (a .plan .threads) (c .before .pre .0 .threads) (c .before .pre .1 .1 .1 .1 .1)
 
 sub-t : tie.Need-sub-t Inv-loop μ-loop
 sub-t c = c .loop-test .taken
@@ -25,42 +25,42 @@ sub-t c = c .loop-test .taken
 height-of-requires : tie.Need-height-of-requires Inv-loop μ-loop
 height-of-requires c κs = tt
 
-mul-before : tie.Need-mul-before Inv-loop μ-loop
-mul-before c = search needs
+mul-e : tie.Need-mul-e Inv-loop μ-loop
+mul-e c = search needs
 
-array-read-before : tie.Need-array-read-before Inv-loop μ-loop
-array-read-before c = omega (arith, c .before .before .loop .inv .inside, c .before .loop-test .taken, c .before .before .before .before .pre .0 .facts .threads-few)
+array-copy-out-e : tie.Need-array-copy-out-e Inv-loop μ-loop
+array-copy-out-e c = omega (arith, c .before .before .loop .inv .inside, c .before .loop-test .taken, c .before .before .before .before .pre .0 .facts .threads-few)
 
 before-requires : tie.Need-before-requires Inv-loop μ-loop
-before-requires c κs = let a = c .before .before .before .before .before .args in
+before-requires c κs = let a = c .before .before .before .before .before .before .args in
     let g = programIn (a .sheet .now) in
-    let x = c .before .before .before .loop .inv in
-    let more = c .before .before .loop-test .taken in
+    let x = c .before .before .before .before .loop .inv in
+    let more = c .before .before .before .loop-test .taken in
     let inside = x .inside in
-    let room = c .before .before .before .before .before .pre .1 .1 .1 .1 .0 .0 in
-    let long = expand-length g (decode (a .cells .now)) (a .latest) (a .bound) (a .slots) (a .work .now) (a .height) (c .before .before .before .loop .work) (c .before .before .before .loop .made) (c .before .before .before .loop .t) x in
-    let high = expand-height g (decode (a .cells .now)) (a .latest) (a .bound) (a .slots) (a .work .now) (a .height) (c .before .before .before .loop .work) (c .before .before .before .loop .made) (c .before .before .before .loop .t) x (c .before .before .before .before .before .pre .1 .1 .1 .1 .1) in
-    (c .before .before .before .before .before .pre .0, (omega arith, (c .before .before .before .before .before .pre .1 .0 (c .before .before .before .loop .t - 1) (omega arith) (omega arith), (c .before .before .before .before .before .pre .1 .1 .0, (c .before .before .before .before .before .pre .1 .1 .1 .0, ((omega arith, c .before .before .before .before .before .pre .1 .1 .1 .1 .0 .1), omega (arith, c .before .height-of .ensures)))))))
+    let room = c .before .before .before .before .before .before .pre .1 .1 .1 .1 .0 .0 in
+    let long = expand-length g (decode (a .cells .now)) (a .latest .0) (a .bound .0) (a .slots) (a .work .now) (a .height) (c .before .before .before .before .loop .work) (c .before .before .before .before .loop .made) (c .before .before .before .before .loop .t) x in
+    let high = expand-height g (decode (a .cells .now)) (a .latest .0) (a .bound .0) (a .slots) (a .work .now) (a .height) (c .before .before .before .before .loop .work) (c .before .before .before .before .loop .made) (c .before .before .before .before .loop .t) x (c .before .before .before .before .before .before .pre .1 .1 .1 .1 .1) in
+    (c .before .before .before .before .before .before .pre .0, (omega arith, (c .before .before .before .before .before .before .pre .1 .0 (c .before .before .before .before .loop .t - 1) (omega arith) (omega arith), (c .before .before .before .before .before .before .pre .1 .1 .0, (c .before .before .before .before .before .before .pre .1 .1 .1 .0, ((omega arith, c .before .before .before .before .before .before .pre .1 .1 .1 .1 .0 .1), omega (arith, c .before .before .height-of .ensures)))))))
 
 loop-less : tie.Need-loop-less Inv-loop μ-loop
-loop-less c = let more = c .before .before .before .before .loop-test .taken in omega arith
+loop-less c = let more = c .before .before .before .before .before .loop-test .taken in omega arith
 
 loop-again : tie.Need-loop-again Inv-loop μ-loop
-loop-again c = let a = c .before .before .before .before .before .before .before .args in
+loop-again c = let a = c .before .before .before .before .before .before .before .before .args in
     let g = programIn (a .sheet .now) in
-    let x = c .before .before .before .before .before .loop .inv in
-    let more = c .before .before .before .before .loop-test .taken in
-    expand-again g (decode (a .cells .now)) (a .latest) (a .bound) (a .slots) (a .work .now) (a .height) (c .before .before .before .before .before .loop .work) (c .before .before .before .before .before .loop .made) (c .before .before .before .before .before .loop .t) x more _ _ (c .before .before2 .ensures .0 (a .work .now) (a .height) (c .before .before .before .height-of .ensures) (expand-later g (decode (a .cells .now)) (a .latest) (a .bound) (a .slots) (a .work .now) (a .height) (c .before .before .before .before .before .loop .work) (c .before .before .before .before .before .loop .made) (c .before .before .before .before .before .loop .t) x more))
+    let x = c .before .before .before .before .before .before .loop .inv in
+    let more = c .before .before .before .before .before .loop-test .taken in
+    expand-again g (decode (a .cells .now)) (a .latest .0) (a .bound .0) (a .slots) (a .work .now) (a .height) (c .before .before .before .before .before .before .loop .work) (c .before .before .before .before .before .before .loop .made) (c .before .before .before .before .before .before .loop .t) x more _ _ (c .before .before2 .ensures .0 (a .work .now) (a .height) (c .before .before .before .before .height-of .ensures) (expand-later g (decode (a .cells .now)) (a .latest .0) (a .bound .0) (a .slots) (a .work .now) (a .height) (c .before .before .before .before .before .before .loop .work) (c .before .before .before .before .before .before .loop .made) (c .before .before .before .before .before .before .loop .t) x more))
 
 same-length : tie.Need-same-length Inv-loop μ-loop
 same-length c = let a = c .before .before .before .args in
     let g = programIn (a .sheet .now) in
-    expand-length g (decode (a .cells .now)) (a .latest) (a .bound) (a .slots) (a .work .now) (a .height) (c .before .loop .work) (c .before .loop .made) (c .before .loop .t) (c .before .loop .inv)
+    expand-length g (decode (a .cells .now)) (a .latest .0) (a .bound .0) (a .slots) (a .work .now) (a .height) (c .before .loop .work) (c .before .loop .made) (c .before .loop .t) (c .before .loop .inv)
 
 returns : tie.Need-returns Inv-loop μ-loop
 returns c = let a = c .before .before .before .args in
     let g = programIn (a .sheet .now) in
-    expand-done g (decode (a .cells .now)) (a .latest) (a .bound) (a .slots) (a .work .now) (a .height) (c .before .loop .work) (c .before .loop .made) (c .before .loop .t) (c .before .loop .inv) (omega (arith, c .loop-test .left))
+    expand-done g (decode (a .cells .now)) (a .latest .0) (a .bound .0) (a .slots) (a .work .now) (a .height) (c .before .loop .work) (c .before .loop .made) (c .before .loop .t) (c .before .loop .inv) (omega (arith, c .loop-test .left))
 
 pub expand-spec : {M : Type 1} → statement M
 expand-spec =
@@ -71,8 +71,8 @@ expand-spec =
     loop-holds
     sub-t
     height-of-requires
-    mul-before
-    array-read-before
+    mul-e
+    array-copy-out-e
     before-requires
     loop-less
     loop-again

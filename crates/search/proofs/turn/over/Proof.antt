@@ -1,34 +1,26 @@
+-- `search::turn::over` meets its contract. Assumes nothing.
 use borrow.Author.Needs.{needs}
 use Rattle.search.proofs.turn.over.Statement.{statement}
 use Rattle.search.proofs.turn.over.Tie as tie
-use Rattle.search.proofs.turn.over.Reads as reads
-use Rattle.search.proofs.turn.over.Lts as lts
 
--- src/turn.rt:42:22
 enum-known-r : tie.Need-enum-known-r
 enum-known-r c = search needs
 
--- src/turn.rt:43:23
 enum-known-r-2 : tie.Need-enum-known-r-2
 enum-known-r-2 c = search needs
 
--- src/turn.rt:44:25
 enum-known-later : tie.Need-enum-known-later
 enum-known-later c = search needs
 
--- src/turn.rt:45:32
 enum-told : tie.Need-enum-told
 enum-told c = search needs
 
--- src/turn.rt:38:1
 returns : tie.Need-returns
 returns c = rw (c .before .r .given .1)
 
--- src/turn.rt:38:1
 returns-2 : tie.Need-returns-2
 returns-2 c = rw (c .before .before .before .before .r2 .given .1, c .before .later .given .1)
 
--- src/turn.rt:38:1
 returns-3 : tie.Need-returns-3
 returns-3 c = rw (c .before .before .before .r2 .given .1, c .enum-told .given .1)
 

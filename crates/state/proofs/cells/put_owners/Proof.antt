@@ -1,14 +1,10 @@
 -- `state::cells::put_owners` meets its contract. Assumes nothing.
-use mir.Syntax.{w32}
-use mir.Val.{toZ, ofZ}
-use mir.Facts.{toZ-ofZ}
-use borrow.Author.Needs.{sfits-of}
 use borrow.Author.Needs.{needs}
 use native.Mathlib.Omega.{arith}
 use Prim.Native.Nat.{ℕ, _≤_, _-_, _+_}
 use mathlib.Core.Path.{_≡_, ap, _∙_}
 use mathlib.Core.List.{List, _++_}
-use lib.ListN.{length, getD, drop, set, length-set}
+use lib.ListN.{length, getD, drop, set}
 use lib.IntN.{ℤ, pos}
 use Rattle.state.specs.Cells.{byteCellsFrom, ownersCells}
 use Rattle.state.proofs.Writing.{put-more, bytes-more, bytes-length, drop-all}
@@ -25,17 +21,11 @@ loop-holds : tie.Need-loop-holds Inv-loop μ-loop
 unfolding byteCellsFrom
 loop-holds c = search needs
 
-array-read-byte-cell : tie.Need-array-read-byte-cell Inv-loop μ-loop
-array-read-byte-cell c = search needs
+array-read-put-byte : tie.Need-array-read-put-byte Inv-loop μ-loop
+array-read-put-byte c = search needs
 
-byte-cell-requires : tie.Need-byte-cell-requires Inv-loop μ-loop
-byte-cell-requires c κs = search needs
-
-mul-x : tie.Need-mul-x Inv-loop μ-loop
-mul-x c = search needs
-
-slice-set-from-x : tie.Need-slice-set-from-x Inv-loop μ-loop
-slice-set-from-x c = search needs
+put-byte-requires : tie.Need-put-byte-requires Inv-loop μ-loop
+put-byte-requires c κs = search needs
 
 add-i : tie.Need-add-i Inv-loop μ-loop
 add-i c = search needs
@@ -44,19 +34,17 @@ loop-less : tie.Need-loop-less Inv-loop μ-loop
 loop-less c = search needs
 
 loop-again : tie.Need-loop-again Inv-loop μ-loop
-loop-again c =
-    let at-loop = c .before .before in
-    let cells₀ = at-loop .before .args .cells .now in
-    let v = at-loop .before .args .t2 in
-    let i = at-loop .loop .i in
-    let r = c .byte-cell .result in
-    let e : toZ w32 (ofZ w32 r) ≡ pos (getD v i 0) = toZ-ofZ (sfits-of (c .byte-cell .ok)) ∙ c .byte-cell .ensures .0 in (
+loop-again c = let arg = c .before .before .before .before .before .args in
+    let cells₀ = arg .cells .now in
+    let v = arg .t2 in
+    let i = c .before .before .before .before .loop .i in (
       omega arith,
-      simp length-set (omega arith),
-      at-loop .loop .inv .2,
-      ap (λ (l : List ℤ). set l i (toZ w32 (ofZ w32 r))) (at-loop .loop .inv .3)
-          ∙ put-more (byteCellsFrom v 0 i) cells₀ i (toZ w32 (ofZ w32 r)) (bytes-length v 0 i) (omega arith)
-          ∙ rw (e, bytes-more v i),
+      c .before .put-byte .kept .0 ∙ c .before .before .before .before .loop .inv .1,
+      c .before .before .before .before .loop .inv .2,
+      c .before .put-byte .ensures .0
+          ∙ ap (λ (l : List ℤ). set l i (pos (getD v i 0))) (c .before .before .before .before .loop .inv .3)
+          ∙ put-more (byteCellsFrom v 0 i) cells₀ i (pos (getD v i 0)) (bytes-length v 0 i) (omega arith)
+          ∙ rw (bytes-more v i),
     )
 
 same-length : tie.Need-same-length Inv-loop μ-loop
@@ -64,11 +52,10 @@ same-length c = search needs
 
 returns : tie.Need-returns Inv-loop μ-loop
 unfolding ownersCells
-returns c =
-    let at-loop = c .before in
-    let cells₀ = at-loop .before .args .cells .now in
-    let e : at-loop .loop .i ≡ 8 = omega arith in
-    at-loop .loop .inv .3 ∙ drop-all _ cells₀ (at-loop .loop .i) (omega arith) ∙ ap (λ (k : ℕ). byteCellsFrom (at-loop .before .args .t2) 0 k) e
+returns c = let arg = c .before .before .args in
+    let cells₀ = arg .cells .now in
+    let e : c .before .loop .i ≡ 8 = omega arith in
+    c .before .loop .inv .3 ∙ drop-all _ cells₀ (c .before .loop .i) (omega arith) ∙ ap (λ (k : ℕ). byteCellsFrom (arg .t2) 0 k) e
 
 pub put-owners-spec : {M : Type 1} → statement M
 put-owners-spec =
@@ -77,10 +64,8 @@ put-owners-spec =
     Inv-loop
     μ-loop
     loop-holds
-    array-read-byte-cell
-    byte-cell-requires
-    mul-x
-    slice-set-from-x
+    array-read-put-byte
+    put-byte-requires
     add-i
     loop-less
     loop-again

@@ -1,15 +1,14 @@
+-- `state::cells::store` meets its contract. Assumes nothing.
 use mathlib.Core.Path.{ap, _∙_}
 use Prim.Native.Nat.{_+_, _*_}
 use mathlib.Core.List.{List, _++_}
 use lib.IntN.{ℤ}
 use lib.ListN.{take, drop}
+use Rattle.rules.specs.Constants.{numbersPerState}
 use Rattle.state.proofs.Writing.{slot-put}
 use borrow.Author.Needs.{needs}
 use Rattle.state.proofs.cells.store.Statement.{statement}
 use Rattle.state.proofs.cells.store.Tie as tie
-use Rattle.state.proofs.cells.store.Reads as reads
-use Rattle.state.proofs.cells.store.Lts as lts
-use Rattle.state.proofs.cells.put_state.Reads as put-state-reads
 
 mul-at : tie.Need-mul-at
 mul-at c = search needs
@@ -38,8 +37,8 @@ same-length c = search needs
 returns : tie.Need-returns
 returns c =
     let s = c .before .before .before in
-    slot-put (s .args .work .now) (c .before .put-state .last .0) (s .args .slot * 100)
-    ∙ ap (λ (l : List ℤ). take (s .args .slot * 100) (s .args .work .now) ++ (l ++ drop (s .args .slot * 100 + 100) (s .args .work .now))) (c .before .put-state .ensures)
+    slot-put (s .args .work .now) (c .before .put-state .last .0) (s .args .slot * numbersPerState)
+    ∙ ap (λ (l : List ℤ). take (s .args .slot * numbersPerState) (s .args .work .now) ++ (l ++ drop (s .args .slot * numbersPerState + numbersPerState) (s .args .work .now))) (c .before .put-state .ensures)
 
 pub store-spec : {M : Type 1} → statement M
 store-spec =

@@ -4,6 +4,7 @@ use native.Mathlib.Omega.{arith}
 use mathlib.Core.Path.{_≡_, sym, _∙_}
 use Prim.Native.Nat.{ℕ, _-_, _<_, _≤_}
 use lib.ListN.{length, length-set}
+use Rattle.rules.specs.Constants.{numbersPerState}
 use Rattle.state.specs.Cells.{cellAt}
 use Rattle.state.proofs.Writing.{again}
 use Rattle.state.proofs.Written.{copied}
@@ -11,10 +12,10 @@ use Rattle.state.proofs.moves.copy.Statement.{statement}
 use Rattle.state.proofs.moves.copy.Tie as tie
 
 abbrev Inv-loop : tie.InvT-loop
-Inv-loop slot₀ cells i₀ slot i = (i ≤ 100) × (length slot ≡ 100) × (length slot₀ ≡ 100) × ((k : ℕ) → k < i → cellAt slot k ≡ cellAt cells k)
+Inv-loop slot₀ cells i₀ slot i = (i ≤ numbersPerState) × (length slot ≡ numbersPerState) × (length slot₀ ≡ numbersPerState) × ((k : ℕ) → k < i → cellAt slot k ≡ cellAt cells k)
 
 abbrev μ-loop : tie.MeasureT-loop
-μ-loop slot₀ cells i₀ slot i = 100 - i
+μ-loop slot₀ cells i₀ slot i = numbersPerState - i
 
 loop-holds : tie.Need-loop-holds Inv-loop μ-loop
 loop-holds c = (search needs, c .pre, c .pre, λ k h. absurd (omega arith))

@@ -5,6 +5,7 @@ use Prim.Native.Nat.{ℕ, _+_, _*_, _-_, _^_, _<_, _≤_}
 use lib.ListN.{length, length-set}
 use lib.Signed.{mag}
 use lib.IntN.{ℤ}
+use Rattle.rules.specs.Constants.{numbersPerState}
 use Rattle.state.specs.Cells.{cellAt, slotOf}
 use Rattle.state.proofs.Writing.{again}
 use Rattle.state.proofs.Slot.{decode-same}
@@ -14,10 +15,10 @@ use Rattle.state.proofs.parts.take_slot.Statement.{statement}
 use Rattle.state.proofs.parts.take_slot.Tie as tie
 
 abbrev Inv-loop : tie.InvT-loop
-Inv-loop work slot from cells₀ i₀ cells i = (i ≤ 100) × (length cells ≡ 100) × (from ≡ slot * 100) × ((k : ℕ) → k < i → cellAt cells k ≡ cellAt work (from + k)) × ((k : ℕ) → k < i → mag (cellAt cells k) < 2 ^ 31)
+Inv-loop work slot from cells₀ i₀ cells i = (i ≤ numbersPerState) × (length cells ≡ numbersPerState) × (from ≡ slot * numbersPerState) × ((k : ℕ) → k < i → cellAt cells k ≡ cellAt work (from + k)) × ((k : ℕ) → k < i → mag (cellAt cells k) < 2 ^ 31)
 
 abbrev μ-loop : tie.MeasureT-loop
-μ-loop work slot from cells₀ i₀ cells i = 100 - i
+μ-loop work slot from cells₀ i₀ cells i = numbersPerState - i
 
 mul-from : tie.Need-mul-from Inv-loop μ-loop
 mul-from c = search needs
@@ -50,7 +51,7 @@ loop-again : tie.Need-loop-again Inv-loop μ-loop
 loop-again c = let arg = c .before .before .before .args in
     let inv = c .before .before .loop .inv in
     let b = arg .work .now in
-    let from = arg .slot * 100 in
+    let from = arg .slot * numbersPerState in
     let same = again (cellAt b (from + c .before .before .loop .i)) (c .cells .given) in (
       omega arith,
       simp length-set (inv .1),

@@ -1,28 +1,21 @@
+-- `state::starting::range_at` meets its contract. Assumes nothing.
 use Rattle.rules.specs.Interval.{interval}
 use borrow.Author.Needs.{needs}
 use Rattle.state.proofs.starting.range_at.Statement.{statement}
 use Rattle.state.proofs.starting.range_at.Tie as tie
-use Rattle.state.proofs.starting.range_at.Reads as reads
-use Rattle.state.proofs.starting.range_at.Lts as lts
-use Rattle.expression.proofs.int32_at.Reads as int32-at-reads
 
--- src/starting.rt:38:27
 add-int32-at : tie.Need-add-int32-at
 add-int32-at c = search needs
 
--- src/starting.rt:38:9
 int32-at-requires : tie.Need-int32-at-requires
 int32-at-requires c κs = search needs
 
--- src/starting.rt:39:28
 add-int32-at-2 : tie.Need-add-int32-at-2
 add-int32-at-2 c = search needs
 
--- src/starting.rt:39:9
 int32-at-requires-2 : tie.Need-int32-at-requires-2
 int32-at-requires-2 c κs = search needs
 
--- src/starting.rt:34:1
 returns : tie.Need-returns
 returns c = λ i. interval (c .before .int32-at .ensures i) (c .int32-at2 .ensures i)
 

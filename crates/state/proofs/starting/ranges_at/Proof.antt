@@ -1,3 +1,4 @@
+-- `state::starting::ranges_at` meets its contract. Assumes nothing.
 use borrow.Author.Needs.{needs}
 use native.Mathlib.Omega.{arith}
 use Prim.Native.Nat.{ℕ, _≤_, _-_}
@@ -9,9 +10,6 @@ use Rattle.reader.specs.Facts.{ranges}
 use Rattle.state.proofs.Initial.{range-put, no-ranges}
 use Rattle.state.proofs.starting.ranges_at.Statement.{statement}
 use Rattle.state.proofs.starting.ranges_at.Tie as tie
-use Rattle.state.proofs.starting.ranges_at.Reads as reads
-use Rattle.state.proofs.starting.ranges_at.Lts as lts
-use Rattle.state.proofs.starting.range_at.Reads as range-at-reads
 
 abbrev Inv-loop : tie.InvT-loop
 Inv-loop s p n spans₀ i₀ spans i = (i ≤ n) × (length spans ≡ mostRegisters) × (regsOf i spans ≡ ranges s p i)
@@ -19,39 +17,30 @@ Inv-loop s p n spans₀ i₀ spans i = (i ≤ n) × (length spans ≡ mostRegist
 abbrev μ-loop : tie.MeasureT-loop
 μ-loop s p n spans₀ i₀ spans i = n - i
 
--- src/starting.rt:54:5
 loop-holds : tie.Need-loop-holds Inv-loop μ-loop
 loop-holds c = (search needs, refl, no-ranges _ _ _)
 
--- src/starting.rt:55:36
 mul-range-at : tie.Need-mul-range-at Inv-loop μ-loop
 mul-range-at c = search needs
 
--- src/starting.rt:55:32
 add-range-at : tie.Need-add-range-at Inv-loop μ-loop
 add-range-at c = search needs
 
--- src/starting.rt:55:20
 range-at-requires : tie.Need-range-at-requires Inv-loop μ-loop
 range-at-requires c κs = search needs
 
--- src/starting.rt:55:9
 mul-spans : tie.Need-mul-spans Inv-loop μ-loop
 mul-spans c = search needs
 
--- src/starting.rt:55:9
 array-set-from-spans : tie.Need-array-set-from-spans Inv-loop μ-loop
 array-set-from-spans c = search needs
 
--- src/starting.rt:56:9
 add-i : tie.Need-add-i Inv-loop μ-loop
 add-i c = search needs
 
--- src/starting.rt:54:5
 loop-less : tie.Need-loop-less Inv-loop μ-loop
 loop-less c = search needs
 
--- src/starting.rt:54:5
 loop-again : tie.Need-loop-again Inv-loop μ-loop
 loop-again c =
     let at-loop = c .before .before in
@@ -62,7 +51,6 @@ loop-again c =
       range-put (s .s .now) (s .p) (at-loop .loop .i) (at-loop .loop .spans) (c .range-at .result) (omega arith) (inv .2) (c .range-at .ensures),
     )
 
--- src/starting.rt:44:1
 returns : tie.Need-returns Inv-loop μ-loop
 returns c =
     let at-loop = c .before in

@@ -1,31 +1,23 @@
+-- `state::starting::start_thread` meets its contract. Assumes nothing.
 use mathlib.Core.Path.{ap}
 use lib.Dec.{lit<}
 use Rattle.state.specs.Start.{startsWith}
 use borrow.Author.Needs.{needs}
 use Rattle.state.proofs.starting.start_thread.Statement.{statement}
 use Rattle.state.proofs.starting.start_thread.Tie as tie
-use Rattle.state.proofs.starting.start_thread.Reads as reads
-use Rattle.state.proofs.starting.start_thread.Lts as lts
-use Rattle.state.proofs.starting.ranges_at.Reads as ranges-at-reads
-use Rattle.state.proofs.starting.wide.Reads as wide-reads
 
--- src/starting.rt:71:9
 wide-requires : tie.Need-wide-requires
 wide-requires c κs = search needs
 
--- src/starting.rt:72:9
 wide-requires-2 : tie.Need-wide-requires-2
 wide-requires-2 c κs = search needs
 
--- src/starting.rt:73:29
 add-ranges-at : tie.Need-add-ranges-at
 add-ranges-at c = search needs
 
--- src/starting.rt:73:9
 ranges-at-requires : tie.Need-ranges-at-requires
 ranges-at-requires c κs = search needs
 
--- src/starting.rt:67:1
 returns : tie.Need-returns
 returns c = (
   ap startsWith (rw (c .before .before .wide .ensures, c .before .wide2 .ensures) at (c .ranges-at .ensures)),

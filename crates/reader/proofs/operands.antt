@@ -1,0 +1,2 @@
+-- What the proofs of several functions of `operands` cite.
+pub mod Laws

@@ -1,0 +1,30 @@
+-- A lent buffer that is written from a place on. What does not fit is not written; the place is then one past the buffer's end.
+use mathlib.Core.Path.{_≡_}
+use mathlib.Core.List.{[], _∷_}
+use Prim.Native.Nat.{ℕ, _+_}
+use lib.Dec.{ltb}
+use lib.ListN.{length, set}
+use Rattle.rules.specs.Base.{if_then_else_}
+use Rattle.rules.specs.Format.{Bytes}
+
+pub record Out : Type 0 where
+  pub buffer : Bytes
+  pub at : ℕ
+
+abbrev pub outOf : Bytes → ℕ → Out
+outOf l at = record { buffer = l; at = at }
+
+-- one byte
+unfoldable pub put : ℕ → Out → Out
+put b o =
+    if ltb (o .at) (length (o .buffer)) then outOf (set (o .buffer) (o .at) b) (o .at + 1)
+    else outOf (o .buffer) (length (o .buffer) + 1)
+
+-- a text, byte by byte
+unfoldable pub write : Bytes → Out → Out
+write [] o = o
+write (b ∷ s) o = write s (put b o)
+
+-- the text s, written into the buffer l from a place on, makes the buffer m, and the place behind it is r
+abbrev pub Writes : Bytes → Bytes → ℕ → Bytes → ℕ → Type 0
+Writes s l at m r = outOf m r ≡ write s (outOf l at)

@@ -1,0 +1,36 @@
+// Texts into a lent buffer. A writer is the buffer and a place in it, and gives the place behind what it wrote. What does not fit
+// is not written, and the place is then one past the buffer's end, where every later writer leaves it.
+ghost use mathlib.Core.Path.{_≡_};
+ghost use mathlib.Core.List.{[], _∷_};
+ghost use Prim.Native.Nat.{_+_, _%_};
+ghost use Rattle.rules.specs.Product.{decimal};
+ghost use Rattle.writing.specs.Out.{Writes};
+
+// One byte.
+pub fn put(out: &mut [u8], at: usize, b: u8) -> usize
+    ensures { λ r. ⌜ Writes (b ∷ []) (now (out .entry)) at (now (out .exit)) r ⌝ }
+{
+    if at < out.len() {
+        out[at] = b;
+        return at + 1;
+    }
+    out.len() + 1
+}
+
+// A number's last digit.
+fn digit(n: usize) -> u8
+    ensures { λ r. ⌜ r ≡ 48 + n % 10 ⌝ }
+{
+    (48 + n % 10) as u8
+}
+
+// A number in decimal: all digits but the last, then the last.
+pub fn put_decimal(out: &mut [u8], from: usize, n: usize) -> usize
+    ensures { λ r. ⌜ Writes (decimal n) (now (out .entry)) from (now (out .exit)) r ⌝ }
+{
+    if n < 10 {
+        return put(out, from, digit(n));
+    }
+    let at = put_decimal(out, from, n / 10);
+    put(out, at, digit(n))
+}

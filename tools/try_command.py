@@ -1,0 +1,264 @@
+#!/usr/bin/env python3
+"""Tries ./zumbeiry check: on every sheet of sheets/, as text and as bytes, on inputs that are broken on purpose, and on
+a copy of the command whose rt is a stand-in that proves nothing, so that building is tried too.
+
+    python3 tools/try_command.py
+
+The command first builds target/bin/label_main, if need be. The last line is 'N passed, 0 failed'.
+"""
+
+import os
+import re
+import shutil
+import subprocess
+import sys
+import tempfile
+
+sys.dont_write_bytecode = True
+
+import sheet
+import words
+
+ROOT = os.path.dirname(os.path.dirname(os.path.realpath(__file__)))
+HEAD = "limit 10\nbudget 100\nlabel 0..10\nlocks 1\nvar 0..0\n"  # lines 1 to 5
+B = bytes.fromhex("010010 0000000A 00000064 00000002 00000003 030001 00 040001 00 060005 0002 0003 01 060005 0000 0000 00")
+
+passed = failed = 0
+
+
+def expect(what, holds, seen=""):
+    global passed, failed
+    passed, failed = passed + bool(holds), failed + (not holds)
+    if not holds:
+        print(f"FAILED: {what}\n{seen}")
+
+
+class Call:
+    """One call of the command, with what it wrote and how it ended."""
+
+    def __init__(self, *arguments, given=b"", root=ROOT, folder=ROOT, path=None):
+        environment = dict(os.environ, PATH=path if path is not None else os.environ["PATH"])
+        command = [sys.executable, os.path.join(root, "zumbeiry"), *arguments]
+        ended = subprocess.run(command, input=given, cwd=folder, env=environment, capture_output=True)
+        self.what = " ".join(arguments)
+        self.status, self.out, self.err = ended.returncode, ended.stdout.decode(), ended.stderr.decode()
+
+    def gives(self, status, *out, err=()):
+        """The exit status is the one given, each of the words is written, and nothing went wrong inside."""
+        seen = f"status {self.status}\n{self.out}{self.err}"
+        expect(f"{self.what}: status {status}", self.status == status and "Traceback" not in self.err, seen)
+        for text in out:
+            expect(f"{self.what}: writes {text!r}", text in self.out, seen)
+        for text in err:
+            expect(f"{self.what}: says {text!r}", text in self.err, seen)
+        return self
+
+
+def cannot(call, *err):
+    """The command could not run: 2, nothing answered, one line that says why."""
+    call.gives(2, err=err)
+    expect(f"{call.what}: one line and no answer", call.out == "" and call.err.count("\n") == 1, call.out + call.err)
+
+
+def try_sheets(folder):
+    names = sorted(name for name in os.listdir(os.path.join(ROOT, "sheets")) if name.endswith(".txt"))
+    numbers = []
+    for name in names:
+        path = os.path.join("sheets", name)
+        with open(os.path.join(ROOT, path), encoding="utf-8") as text:
+            lines = text.readlines()
+        five = next(re.search(r"# Expected: ([\d ]+)", line) for line in lines if "# Expected:" in line).group(1)
+        numbers.append(five.strip())
+        status = 0 if numbers[-1].startswith("0 ") else 1
+        word = "accepted: " if status == 0 else "refused, "
+        first = Call("check", path).gives(status, numbers[-1] + "\n" + word)
+        with open(os.path.join(folder, name), "wb") as file:
+            file.write(sheet.assemble(lines))
+        second = Call("check", os.path.join(folder, name)).gives(status)
+        said = "".join(line for line in first.out.splitlines(True) if not line.startswith("  line "))
+        expect(f"{name}: bytes give what text gives", second.out == said, first.out + second.out)
+    several = [os.path.join("sheets", name) for name in names]
+    call = Call("check", "--numbers", *several).gives(1)
+    expect("the numbers alone", call.out.splitlines() == numbers and call.err == "", call.out)
+    Call("check", *several[:2]).gives(1, f"{several[0]}:\n{numbers[0]}\n", f"\n\n{several[1]}:\n{numbers[1]}\n")
+
+
+# after HEAD: the text, the first two numbers, the words that name the field
+WRONG_TEXTS = (
+    ("thread\n1..1 r3 := 1\nhalt", "5 38", "line 7: 1..1 r3 := 1\n", "statement 0 of thread 0, assign"),
+    ("thread\n1..1 load r0 from x0\nhalt", "5 38", "line 7: 1..1 load r0 from x0\n", "load"),
+    ("thread\n# a comment\n\n1..1 if true goto 9 # far\nhalt", "5 38", "line 9: 1..1 if true goto 9\n", "if"),
+    ("thread\nhalt\nthread\n1..1 lock l1\nhalt", "5 50", "line 9: 1..1 lock l1\n", "statement 0 of thread 1, lock"),
+    ("thread\n1..1 skip", "7 38", "line 7: 1..1 skip\n", "statement 0 of thread 0, skip"),
+    ("thread\n3..2 skip\nhalt", "4 38", "line 7: 3..2 skip\n", "least at most greatest"),
+    ("thread\n0..2 skip\nhalt", "4 38", "line 7: 0..2 skip\n", "what fits: codes 0..7"),
+    ("thread\nreg 1..0\nhalt", "4 38", "line 7: reg 1..0\n", "register r0 of thread 0"),
+    ("var 1..0\nthread\nhalt", "4 34", "line 6: var 1..0\n", "variable x1"),
+    ("thread\n" + "reg 0..0\n" * 9 + "halt", "4 34", "line 6: thread\n", "0..8 registers"),
+    ("thread\nthread\nhalt", "2 38", "line 7: thread\n", "due there: a statement of thread 0"),
+    ("thread", "1 38", "after line 6, the last: thread\n", "here the sheet ends"),
+    ("thread\nreg 0..0", "1 49", "after line 7, the last: reg 0..0\n", "due there: a statement of thread 0"),
+    ("", "1 34", "after line 5, the last: var 0..0\n", "due there: a variable (tag 2) or a thread (tag 4)"),
+    ("var 0..0\n" * 8, "8 111", "line 13: var 0..0\n", "variable x8"),
+    ("thread\nhalt\n" * 5, "8 82", "line 14: thread\n", "the start of thread 4"),
+    ("thread\nreg 0..0\n1..1 r0 := " + "(" * 12 + "0" + " + 0)" * 12 + "\nhalt", "6 49", "line 8: ", "assign"),
+    ("thread\nreg -1..1\n1..1 r0 := 10 / r0\nhalt", "10 49", "line 8: 1..1 r0 := 10 / r0\n", "took 1 state\n"),
+    ("thread\n" + "1..1 skip\n" * 64 + "halt", "8 550", "line 71: halt\n", "statement 64 of thread 0, halt"),
+)
+
+# the whole text, the line and the reason
+UNREADABLE_TEXTS = (
+    ("limit ten\n", "line 1: a number expected"),
+    ("limit 5000000000\n", "line 1: a number does not fit"),
+    ("limit 1\nlabel -1..3\n", "line 2: a number does not fit"),
+    ("budget 1\nlocks 300\n", "line 2: a number does not fit"),
+    ("budget 1\n", "no 'limit' line"),
+    (HEAD + "thread\n1..1 skip now\nhalt\n", "line 7: not a statement"),
+    (HEAD + "thread\n1..1 r0 := 1 +\nhalt\n", "line 7: a number or register expected"),
+    (HEAD + "thread\n1..70000 skip\nhalt\n", "line 7: a number does not fit"),
+    (HEAD + "thread\n1..1 r0 := " + "(" * 9000 + "\nhalt\n", "line 7: nested too deeply"),
+    (HEAD + "thread\n1..1 r0 := 1" + "0" * 9000 + "\nhalt\n", "line 7: "),
+    (HEAD + "thread\n" + "reg 0..0\n" * 256, "line 262: a number does not fit"),
+    ("h\xe9llo\n", "line 1: "),
+    ("skip " * 300_000, "a text of more than 1,000,000 bytes is not read"),
+)
+
+
+def try_texts():
+    for text, numbers, *said in WRONG_TEXTS:
+        call = Call("check", "-", given=(HEAD + text).encode()).gives(1, *said)
+        expect(f"{text!r} gives {numbers}", call.out.startswith(numbers + " "), call.out)
+    limit = HEAD.replace("label 0..10", "label 3..2") + "thread\nhalt\n"
+    Call("check", "-", given=limit.encode()).gives(1, "4 0 ", "line 1: limit 10\n", "line 3: label 3..2\n")
+    for text, said in UNREADABLE_TEXTS:
+        cannot(Call("check", "-", given=text.encode("latin-1")), "zumbeiry: -: " + said)
+    Call("check", "-", given=b"\xef\xbb\xbf" + HEAD.replace("\n", "\r\n").encode() + b"thread\r\nhalt # \xe9").gives(0)
+
+
+def try_bytes(folder):
+    wrong = (
+        (b"", "1 0 0 0 0", "at byte 0: here the sheet ends"),
+        (B[:2], "1 0 0 0 0", "a header of which 2 of 3 bytes are there"),
+        (B[:27], "1 27 0 0 0", "due there: a statement of thread 0 (tag 6)"),
+        (B[:35], "7 27 0 0 0", "statement 0 of thread 0, skip (tag 6, length 5)"),
+        (B[:42], "1 35 0 0 0", "of which 7 of 8 bytes are there"),
+        (B[19:], "2 0 0 0 0", "the number of locks (tag 3, length 1)"),
+        (B[:1] + b"\xff" + B[2:], "1 0 0 0 0", "of which 43 of 65299 bytes are there"),
+        (B[:2] + b"\x11" + B[3:], "3 0 0 0 0", "limit, budget and label (tag 1, length 17)"),
+        (B[:23] + B[27:], "2 23 0 0 0", "statement 0 of no thread"),
+        (B[:34] + b"\x08" + B[35:], "4 27 0 0 0", "statement 0 of thread 0 (tag 6, length 5)"),
+        (b"\x07\x00\x00", "2 0 0 0 0", "it was taken as bytes"),
+        (b"\x00" * 20_000_000, "9 0 0 0 0", "refused, 9 too long"),
+        (bytes(range(256)) * 60, "2 0 0 0 0", "a field of no known kind (tag 0, length 258)"),
+    )
+    for given, *said in wrong:
+        Call("check", "-", given=given).gives(1, *said)
+    path = os.path.join(folder, "B's bytes")
+    with open(path, "wb") as file:
+        file.write(B)
+    Call("check", os.path.basename(path), folder=folder).gives(0, "0 0 2 2 3\naccepted: ")
+    Call("check", "-", given=B).gives(0, "between tick 2 and tick 3, inside the label 2..3; the search took 2 states")
+    cannot(Call("check", "--text", "-", given=B), "zumbeiry: -: line 1: ")
+    Call("check", "--bytes", "-", given=b"limit 10").gives(1, "2 0 0 0 0\nrefused, 2 out of turn")
+
+
+def try_search():
+    Call("check", "sheets/B-limit2.txt").gives(1, "refused, 12 past the limit", "the limit is 2 ticks")
+    Call("check", "sheets/B-budget.txt").gives(1, "refused, 13 out of steps", "the budget is 1 step; a larger one")
+    roomy = HEAD.replace("10", "100000") + ("thread\n" + "1..9 skip\n" * 63 + "halt\n") * 4
+    Call("check", "-", given=roomy.encode()).gives(1, "14 0 ", "lends 12,000 numbers, room for 120 states")
+    Call("check", "sheets/B-label.txt").gives(1, "the window found is 2..3, the label 3..3", "a label that holds 2..3")
+    Call("check", "sheets/E.txt").gives(1, "refused, 11 stuck")
+
+
+def try_usage(folder):
+    call = Call().gives(2, err=["usage: ./zumbeiry VERB"])
+    expect("no verb: nothing on standard output", call.out == "")
+    for arguments in (["--help"], ["check", "--help"], ["check", "-h", "x"]):
+        Call(*arguments).gives(0, "usage: ./zumbeiry ")
+    cannot(Call("sing"), "there is no verb 'sing'")
+    cannot(Call("check"), "check which FILE?")
+    cannot(Call("check", "--loud", "x"), "there is no option --loud")
+    cannot(Call("check", "--text", "--bytes", "x"), "do not go together")
+    cannot(Call("check", "-", "-"), "can be read once")
+    cannot(Call("check", "absent"), "zumbeiry: absent: No such file")
+    cannot(Call("check", "--", "--help"), "zumbeiry: --help: No such file")
+    cannot(Call("check", folder), "Is a directory")
+    call = Call("check", "sheets/E.txt", "absent", "sheets/A.txt").gives(2, "11 0 3 0 0\n", "0 0 1 0 0\n", err=["absent"])
+    Call("check", "A.txt", "-", given=B, folder=os.path.join(ROOT, "sheets")).gives(0, "A.txt:\n0 0 1", "-:\n0 0 2")
+
+
+def stand_in(path, script):
+    with open(path, "w", encoding="utf-8") as file:
+        file.write("#!/bin/sh\n" + script)
+    os.chmod(path, 0o755)
+
+
+def try_building(folder):
+    """In a copy with one small crate and a stand-in for rt, which copies the program instead of proving it."""
+    copy, bins = os.path.join(folder, "copy"), os.path.join(folder, "bins")
+    source = os.path.join(copy, "crates", "label", "src", "lib.rt")
+    built = os.path.join(copy, "target", "bin", "label_main")
+    for made in (os.path.dirname(source), os.path.dirname(built), os.path.join(copy, "tools"), bins):
+        os.makedirs(made)
+    shutil.copy(os.path.join(ROOT, "zumbeiry"), copy)
+    for name in ("sheet.py", "words.py", "programs.py"):
+        shutil.copy(os.path.join(ROOT, "tools", name), os.path.join(copy, "tools"))
+    for name, text in (("crates.txt", "label:\nlabel_main: label io # a comment\n"), (source, "")):
+        with open(os.path.join(copy, name), "w", encoding="utf-8") as file:
+            file.write(text)
+    real = os.path.join(ROOT, "target", "bin", "label_main")
+    path = bins + os.pathsep + os.environ["PATH"]
+    rt = os.path.join(bins, "rt")
+
+    def call(path=path):
+        return Call("check", "-", given=B, root=copy, folder=folder, path=path)
+
+    cannot(call(path=folder), "there is no rt")
+    stand_in(rt, "echo noise; echo 'rt: rules NOT PROVED'; exit 1\n")
+    call().gives(2, err=["proving and building label_main", "\nrt: rules NOT PROVED\n", "'rt check label_main' ended with 1"])
+    stand_in(rt, "exit 0\n")
+    call().gives(2, err=["wrote no target/bin/label_main"])
+    stand_in(rt, f"[ \"$*\" = 'check label_main' ] && echo 'rt: label proved (1 s)' && cp -p '{real}' '{built}'\n")
+    call().gives(0, "0 0 2 2 3\n", err=["zumbeiry: proving and building", "\nrt: label proved (1 s)\n"])
+    expect("built once", call().gives(0, "0 0 2 2 3\n").err == "")
+    os.utime(source)
+    call().gives(0, "0 0 2 2 3\n", err=["zumbeiry: proving and building"])
+    expect("built once more", call().gives(0).err == "")
+    stand_in(rt, "exit 1\n")
+    os.utime(os.path.join(copy, "crates.txt"))
+    call().gives(2)
+    call().gives(2, err=["zumbeiry: proving and building"])
+    for script, said in (
+        ("exit 3\n", "ended with status 3"),
+        ("kill -9 $$\n", "ended by signal 9"),
+        ("echo hello\n", "did not print five numbers"),
+        ("echo 99 0 0 0 0\n", "a refusal that has no words"),
+    ):
+        stand_in(built, script)
+        cannot(call(), said)
+
+
+def try_readme():
+    with open(os.path.join(ROOT, "README.md"), encoding="utf-8") as readme:
+        rows = re.findall(r"^\| (\d+) (.+) \| (.+) \| (.+) \|$", readme.read(), re.MULTILINE)
+    table = [(str(number), *row) for number, row in words.REFUSALS.items()]
+    expect("README's table of refusals is the command's", [row for row in rows if row in table] == table, rows)
+
+
+def main():
+    subprocess.run([os.path.join(ROOT, "zumbeiry"), "check", os.path.join(ROOT, "sheets", "B.txt")])
+    with tempfile.TemporaryDirectory() as folder:
+        try_sheets(folder)
+        try_texts()
+        try_bytes(folder)
+        try_search()
+        try_usage(folder)
+        try_building(folder)
+        try_readme()
+    print(f"{passed} passed, {failed} failed")
+    return 1 if failed else 0
+
+
+if __name__ == "__main__":
+    sys.exit(main())
