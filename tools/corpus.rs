@@ -43,7 +43,7 @@ use std::io::Write;
 use std::{env, fs, process};
 
 /// How many entries of each refusal are kept at most, per thousand asked for.
-const SHARES: [usize; 16] = [230, 60, 60, 50, 50, 60, 60, 40, 40, 0, 110, 80, 80, 70, 75, 80];
+const SHARES: [usize; 17] = [230, 60, 60, 50, 50, 60, 60, 40, 40, 0, 90, 80, 80, 70, 75, 80, 70];
 
 /// Where an entry's five numbers stand, and what is planted.
 const NUMBERS: std::ops::Range<usize> = 4..19;
@@ -122,7 +122,7 @@ fn make(seed: u64, count: usize) -> Vec<Recorded> {
     let mut generator = Generator::new(seed);
     let mut seen = BTreeSet::new();
     let mut kept = Vec::new();
-    let mut of = [0; 16];
+    let mut of = [0; SHARES.len()];
     for entry in generator.boundaries() {
         let Some(answer) = answer(&entry.sheet, entry.length) else { continue };
         if seen.insert(entry.clone()) {
@@ -157,7 +157,7 @@ fn make(seed: u64, count: usize) -> Vec<Recorded> {
 fn small(seed: u64, count: usize) -> Vec<Recorded> {
     let mut generator = Generator::new(seed);
     let mut kept = Vec::new();
-    let mut of = [0; 16];
+    let mut of = [0; SHARES.len()];
     while kept.len() < count {
         let entry = generator.entry();
         if entry.sheet.len() >= 150 {
@@ -191,7 +191,7 @@ fn histogram(all: &[Recorded]) {
         println!("planted besides: {} with a wrong number, {} with a changed buffer", wrong, planted.len() - wrong);
     }
     println!("| refusal | entries |\n|---|---|");
-    for refusal in 0..16 {
+    for refusal in 0..SHARES.len() as u8 {
         let count = entries.iter().filter(|entry| entry.answer.refusal == refusal).count();
         println!("| {refusal} | {count} |");
     }

@@ -94,7 +94,7 @@ fn differ(what: &str, entry: &Entry) -> ! {
 
 /// Whether every run had a result at each event, was never stuck or past the limit, and finished in the window if it finished.
 fn in_window(figures: &Figures, low: u64, high: u64) -> bool {
-    let faults = figures.no_result + figures.stuck + figures.past_limit;
+    let faults = figures.no_reading + figures.off_the_scale + figures.stuck + figures.past_limit;
     faults == 0 && (figures.finished == 0 || low <= figures.low && figures.high <= high)
 }
 
@@ -115,7 +115,7 @@ fn main() {
     let start = Instant::now();
     let mut generator = Generator::new(seed);
     let mut random = Random(!seed);
-    let mut of = [0u64; 16];
+    let mut of = [0u64; 17];
     let (mut done, mut passed_over, mut short, mut steps, mut runs, mut longest) = (0u64, 0u64, 0u64, 0u64, 0u64, 0u64);
     let (mut followed_whole, mut of_these) = (0u64, 0u64);
     let mut answers = Guarded::new(1);
@@ -206,7 +206,7 @@ fn main() {
     }
     println!("{done} sheets from seed {seed}, {steps} steps: the same five numbers, the work buffer all zeros, nothing beside a slice touched");
     println!("{short} with an answer of fewer than five numbers; {passed_over} more sheets passed over, of too many steps");
-    println!("by refusal, 0 to 15: {of:?}");
+    println!("by refusal, 0 to 16: {of:?}");
     println!("{runs} runs of accepted sheets, the longest of {longest} events: each with a result, finished inside the window");
     println!("{followed_whole} accepted sheets with all of their runs, {of_these} runs: likewise");
     println!("{:.0} seconds", start.elapsed().as_secs_f64());

@@ -72,6 +72,7 @@ impl Random {
 // ---------------------------------------------------------------------------
 
 const PLUS: u8 = 18;
+const MINUS: u8 = 19;
 const TIMES: u8 = 20;
 const DIVIDE: u8 = 21;
 const EQUAL: u8 = 36;
@@ -166,6 +167,67 @@ impl Condition {
 
 type Range = (i32, i32);
 type Times = (u16, u16);
+
+/// Why a part of an expression has no reading.
+#[derive(Clone, Copy, PartialEq)]
+enum Fault {
+    None,
+    Zero,
+    Size,
+}
+
+const FAULTS: [Fault; 3] = [Fault::None, Fault::Zero, Fault::Size];
+
+/// Registers for such parts: r0 may be 0, r1 stands at the highest value, r2 is
+/// small, r3 stands at the lowest value.
+const WIDE: [Range; 4] = [(-1, 1), (i32::MAX - 1, i32::MAX), (2, 3), (i32::MIN, i32::MIN + 1)];
+const SINGLE: [Range; 4] = [(0, 0), (i32::MAX, i32::MAX), (2, 2), (i32::MIN, i32::MIN)];
+
+/// A small expression over those registers with that fault, one of several.
+fn part(fault: Fault, which: usize) -> Arithmetic {
+    match fault {
+        Fault::None => match which % 3 {
+            0 => Register(2),
+            1 => Constant(7),
+            _ => operation(PLUS, Register(2), Constant(1)),
+        },
+        Fault::Zero => match which % 5 {
+            0 => operation(DIVIDE, Constant(7), Register(0)),
+            1 => operation(DIVIDE, Register(2), Register(0)),
+            2 => operation(DIVIDE, Register(1), operation(TIMES, Register(0), Register(2))),
+            3 => operation(DIVIDE, Register(3), operation(MINUS, Register(0), Register(0))),
+            // by -1..0, or by 0
+            _ => operation(DIVIDE, Register(3), operation(MINUS, Constant(i32::MIN), Register(3))),
+        },
+        Fault::Size => match which % 5 {
+            0 => operation(PLUS, Register(1), Constant(1)),
+            1 => operation(TIMES, Register(1), Register(2)),
+            2 => operation(MINUS, Register(3), Constant(1)),
+            3 => operation(DIVIDE, Register(3), Constant(-1)),
+            _ => operation(MINUS, Constant(-3), Register(1)),
+        },
+    }
+}
+
+/// A comparison with the fault on either side; without one it holds, fails or is
+/// open.
+fn faulty_side(fault: Fault, which: usize) -> Condition {
+    let code = if which % 2 == 0 { EQUAL } else { LESS };
+    if fault == Fault::None {
+        return match which % 5 {
+            0 => Comparison(LESS, Register(2), Constant(3)),
+            1 => False,
+            2 => Comparison(LESS, Register(2), Constant(1)),
+            3 => True,
+            _ => Comparison(EQUAL, Register(2), Constant(2)),
+        };
+    }
+    if which % 3 == 0 {
+        Comparison(code, part(Fault::None, which), part(fault, which))
+    } else {
+        Comparison(code, part(fault, which), part(Fault::None, which))
+    }
+}
 
 /// A statement: its times, then code and operands as bytes.
 #[derive(Clone)]
@@ -551,7 +613,7 @@ impl Generator {
     fn plan(&mut self) -> Plan {
         self.values = self.random.pick(&[Values::Small, Values::Small, Values::Small, Values::Extreme, Values::Any]);
         self.pace = self.random.pick(&[Pace::Unit, Pace::Unit, Pace::Tiny, Pace::Tiny, Pace::Wide, Pace::Huge]);
-        match self.random.below(27) {
+        match self.random.below(30) {
             0 | 1 => self.sequential(),
             2..=4 => self.branching(),
             5 | 6 => self.joined(),
@@ -563,6 +625,7 @@ impl Generator {
             16..=18 => self.failing_and(),
             19..=21 => self.emptied(),
             22..=24 => self.chained(),
+            25..=27 => self.faulting(),
             _ => self.mixed(),
         }
     }
@@ -928,6 +991,92 @@ impl Generator {
         Plan::of(0, vec![], vec![Thread { registers, statements }])
     }
 
+    /// An expression of which several parts may be without a reading, for zero or
+    /// for size; r0 may be 0, r1 stands at an end of the values, r2 is small.
+    fn risky(&mut self, depth: usize) -> Arithmetic {
+        if depth > 1 && self.random.chance(80) {
+            let operator = self.random.pick(&[PLUS, PLUS, MINUS, TIMES, DIVIDE]);
+            let (left, right) = (self.risky(depth - 1), self.risky(depth - 1));
+            return operation(operator, left, right);
+        }
+        match self.random.below(10) {
+            0 | 1 => Register(2),
+            2 => Register(0),
+            3 => Constant(self.random.pick(&[-1, 0, 1, 2])),
+            4..=6 => {
+                let divisor = match self.random.below(3) {
+                    0 => operation(TIMES, Register(0), Register(2)),
+                    _ => Register(0),
+                };
+                operation(DIVIDE, Register(self.random.pick(&[1, 2, 2])), divisor)
+            }
+            kind => {
+                let operator = self.random.pick(&[PLUS, MINUS, TIMES, DIVIDE]);
+                let other = Constant(self.random.pick(&[-2, -1, -1, 1, 1, 2]));
+                match kind {
+                    // no divide by it
+                    7 => operation(operator.min(TIMES), other, Register(1)),
+                    _ => operation(operator, Register(1), other),
+                }
+            }
+        }
+    }
+
+    fn risky_condition(&mut self, depth: usize) -> Condition {
+        let whole = if depth > 1 && self.random.chance(60) {
+            and(self.risky_condition(depth - 1), self.risky_condition(depth - 1))
+        } else {
+            match self.random.below(6) {
+                // what would keep the one or the other off, were it looked at first
+                0 => Comparison(LESS, Constant(0), Register(0)),
+                1 => Comparison(LESS, Register(1), Constant(i32::MAX)),
+                _ => {
+                    let code = self.random.pick(&[EQUAL, LESS]);
+                    let depth = self.random.pick(&[1, 1, 2]);
+                    Comparison(code, self.risky(depth), self.risky(depth))
+                }
+            }
+        };
+        if self.random.chance(30) {
+            not(whole)
+        } else {
+            whole
+        }
+    }
+
+    /// Threads with statements in which left and right parts often lack a reading
+    /// for different reasons.
+    fn faulting(&mut self) -> Plan {
+        let count = self.random.pick(&[1, 1, 1, 2, 2, 3]);
+        let threads = (0..count)
+            .map(|_| {
+                let (least, most) = (i32::MIN, i32::MAX);
+                let ends = [(most - 1, most), (most, most), (most - 3, most - 2), (least, least), (least, -5)];
+                let registers = vec![
+                    self.random.pick(&[(-1, 1), (0, 3), (-1, 0), (0, 0), (1, 2), (-2, -1)]),
+                    self.random.pick(&ends),
+                    self.random.pick(&[(2, 3), (1, 1), (-3, 4)]),
+                ];
+                let mut statements = Vec::new();
+                if self.random.chance(30) {
+                    statements.push(skip(self.times()));
+                }
+                for _ in 0..self.random.pick(&[1, 1, 2]) {
+                    let times = self.times();
+                    statements.push(if self.random.chance(50) {
+                        assign(times, 2, &self.risky(3))
+                    } else {
+                        let condition = self.risky_condition(2);
+                        jump(times, statements.len() + 1, &condition)
+                    });
+                }
+                statements.push(halt());
+                Thread { registers, statements }
+            })
+            .collect();
+        Plan::of(0, vec![], threads)
+    }
+
     /// Threads whose statements differ in times.
     fn parallel(&mut self) -> Plan {
         let count = self.random.pick(&[2, 2, 3, 3, 4]);
@@ -940,7 +1089,11 @@ impl Generator {
                 if self.random.chance(15) {
                     // something without a reading, perhaps never reached
                     registers.push((-1, 1));
-                    let value = Operation(DIVIDE, Box::new(Constant(1)), Box::new(Register(0)));
+                    let value = if self.random.chance(50) {
+                        operation(DIVIDE, Constant(1), Register(0))
+                    } else {
+                        operation(PLUS, Register(0), Constant(i32::MAX))
+                    };
                     let at = self.random.below(statements.len() + 1);
                     statements.insert(at, assign(self.times(), 0, &value));
                 }
@@ -1145,7 +1298,7 @@ impl Generator {
                     plan.low = plan.high;
                 }
             }
-            10 | 11 => match self.random.below(8) {
+            10 | 11 | 16 => match self.random.below(8) {
                 0 => plan.budget = steps,
                 1 => plan.budget = (steps - 1).max(1),
                 2 => length = least(1, 120, |slots| same(&plan, slots as usize * 100)) as usize * 100,
@@ -1450,6 +1603,12 @@ impl Generator {
         self.nesting_edges(&mut entries);
         self.narrowing_edges(&mut entries);
         self.arithmetic_edges(&mut entries);
+        self.expression_faults(&mut entries);
+        self.operator_faults(&mut entries);
+        self.condition_faults(&mut entries);
+        self.narrowing_faults(&mut entries);
+        self.branch_faults(&mut entries);
+        self.thread_faults(&mut entries);
         self.cuts(&mut entries);
         self.lengths(&mut entries);
         self.order_edges(&mut entries);
@@ -1902,6 +2061,353 @@ impl Generator {
         }
     }
 
+    /// Zero and size on the left, on the right and of the operator, flat and nested.
+    fn expression_faults(&mut self, entries: &mut Vec<Entry>) {
+        // gives how many there are
+        let mut add = |registers: &[Range], value: &Arithmetic| {
+            let mut statements = vec![assign((1, 1), 2, value), halt()];
+            if entries.len() % 3 == 0 {
+                statements.insert(0, skip((1, 2)));
+            }
+            let plan = Plan::of(0, vec![], vec![Thread { registers: registers.to_vec(), statements }]);
+            entries.push(Entry { sheet: plan.bytes(), length: PLAIN });
+            entries.len()
+        };
+        let mut turn = 0;
+        for registers in [WIDE, SINGLE] {
+            for operator in PLUS..=DIVIDE {
+                for left in FAULTS {
+                    for right in FAULTS {
+                        turn = add(&registers, &operation(operator, part(left, turn), part(right, turn / 2)));
+                    }
+                }
+            }
+            // the operator's zero after the left operand
+            for which in 0..5 {
+                for divisor in [Constant(0), Register(0)] {
+                    add(&registers, &operation(DIVIDE, part(Fault::Size, which), divisor));
+                }
+                turn = add(&registers, &operation(DIVIDE, part(Fault::None, which), Register(0)));
+            }
+            // two of the four parts of a nested expression
+            for (first, second) in [(Fault::Zero, Fault::Size), (Fault::Size, Fault::Zero)] {
+                for i in 0..4 {
+                    for j in i + 1..4 {
+                        let fault = |place| match place {
+                            _ if place == i => first,
+                            _ if place == j => second,
+                            _ => Fault::None,
+                        };
+                        let at = |place| part(fault(place), turn);
+                        let left = operation(PLUS + (turn % 4) as u8, at(0), at(1));
+                        let right = operation(PLUS + (turn / 4 % 4) as u8, at(2), at(3));
+                        turn = add(&registers, &operation(PLUS + (turn / 2 % 4) as u8, left, right));
+                    }
+                }
+                // one deep inside, the other beside it at the top
+                for depth in [2, 5, 9] {
+                    let deep = |fault: Fault, to_left: bool| {
+                        (0..depth).fold(part(fault, 0), |whole, _| match to_left {
+                            true => operation(PLUS, whole, Constant(0)),
+                            false => operation(PLUS, Constant(0), whole),
+                        })
+                    };
+                    for to_left in [true, false] {
+                        turn = add(&registers, &operation(MINUS, deep(first, to_left), part(second, turn)));
+                        turn = add(&registers, &operation(MINUS, part(first, turn), deep(second, to_left)));
+                    }
+                }
+            }
+            // an operator's own fault against another part's
+            let sum = || operation(PLUS, Register(1), Register(2));
+            let square = || operation(TIMES, Register(3), Register(3));
+            let least = || operation(DIVIDE, Register(3), Constant(-1));
+            let divided = || operation(DIVIDE, Register(2), Register(0));
+            for value in [
+                operation(DIVIDE, sum(), Register(0)),
+                operation(DIVIDE, Register(0), sum()),
+                operation(MINUS, divided(), square()),
+                operation(MINUS, square(), divided()),
+                operation(TIMES, least(), divided()),
+                operation(TIMES, divided(), least()),
+                operation(DIVIDE, Constant(7), operation(DIVIDE, Constant(7), Register(0))),
+                operation(DIVIDE, Constant(7), operation(PLUS, Register(1), Constant(1))),
+                operation(TIMES, Register(0), operation(MINUS, Register(3), Register(2))),
+                operation(DIVIDE, least(), Constant(0)),
+                operation(DIVIDE, divided(), Constant(0)),
+                operation(PLUS, operation(DIVIDE, Register(2), Register(2)), least()),
+            ] {
+                add(&registers, &value);
+            }
+        }
+    }
+
+    /// An operator's own fault: zero, size or both of a divide; size of the others
+    /// by either end of the result, and the ends that just fit.
+    fn operator_faults(&mut self, entries: &mut Vec<Entry>) {
+        let (least, most) = (i32::MIN, i32::MAX);
+        let mut add = |operator: u8, left: Range, right: Range| {
+            let value = operation(operator, Register(0), Register(1));
+            let statements = vec![assign((1, 1), 0, &value), halt()];
+            let plan = Plan::of(0, vec![], vec![Thread { registers: vec![left, right], statements }]);
+            entries.push(Entry { sheet: plan.bytes(), length: PLAIN });
+        };
+        for left in [(least, least), (least, -1), (least, most), (least + 1, least + 1), (-3, 4), (most, most)] {
+            for right in [(-1, -1), (-1, 0), (-2, -1), (-2, 0), (-1, 1), (-2, 3), (0, 0), (0, 1), (-7, -2)] {
+                add(DIVIDE, left, right);
+            }
+        }
+        for (operator, left, right) in [
+            (PLUS, (most - 1, most), (0, 0)),
+            (PLUS, (most - 1, most), (0, 1)),
+            (PLUS, (most - 1, most), (2, 2)),
+            (PLUS, (1, 5), (most - 5, most - 5)),
+            (PLUS, (1, 5), (most - 4, most - 4)),
+            (PLUS, (least, least + 1), (-1, 0)),
+            (PLUS, (least, least + 1), (-2, -2)),
+            (PLUS, (-5, -1), (least + 5, least + 5)),
+            (PLUS, (-5, -1), (least + 4, least + 4)),
+            (PLUS, (least, most), (-1, 1)),
+            (MINUS, (0, 0), (least + 1, most)),
+            (MINUS, (0, 0), (least, least)),
+            (MINUS, (-1, 0), (most, most)),
+            (MINUS, (-2, 0), (most, most)),
+            (MINUS, (-1, 0), (least, least)),
+            (MINUS, (least, most), (least, most)),
+            (TIMES, (-1, 65_536), (0, 32_767)),
+            (TIMES, (-1, 65_536), (0, 32_768)),
+            (TIMES, (-65_536, 1), (0, 32_768)),
+            (TIMES, (-65_537, 1), (0, 32_768)),
+            (TIMES, (least, least), (-1, 0)),
+            (TIMES, (least, least), (0, 1)),
+            (TIMES, (-46_341, 46_341), (-46_341, 46_341)),
+            (TIMES, (least, most), (least, most)),
+        ] {
+            add(operator, left, right);
+        }
+    }
+
+    /// Zero and size on both sides of a comparison and of an "and", and under not.
+    fn condition_faults(&mut self, entries: &mut Vec<Entry>) {
+        let mut add = |registers: &[Range], condition: &Condition| {
+            let statements = vec![jump((1, 1), 2, condition), skip((1, 1)), halt()];
+            let plan = Plan::of(0, vec![], vec![Thread { registers: registers.to_vec(), statements }]);
+            entries.push(Entry { sheet: plan.bytes(), length: PLAIN });
+        };
+        let mut which = 0;
+        for registers in [WIDE, SINGLE] {
+            for left in FAULTS {
+                for right in FAULTS {
+                    if left == Fault::None && right == Fault::None {
+                        continue;
+                    }
+                    for code in [EQUAL, LESS] {
+                        which += 1;
+                        let comparison = Comparison(code, part(left, which), part(right, which / 2));
+                        add(&registers, &comparison);
+                        add(&registers, &not(comparison));
+                    }
+                    for form in 0..4 {
+                        which += 1;
+                        let (a, b) = (faulty_side(left, which), faulty_side(right, which / 2));
+                        add(
+                            &registers,
+                            &match form {
+                                0 => and(a, b),
+                                1 => not(and(a, b)),
+                                2 => and(not(a), b),
+                                _ => not(and(a, not(b))),
+                            },
+                        );
+                    }
+                    // beside another "and", and twice negated
+                    let (a, b) = (faulty_side(left, which), faulty_side(right, which + 1));
+                    add(&registers, &and(faulty_side(Fault::None, which), and(a.clone(), b.clone())));
+                    add(&registers, &Not(Box::new(Not(Box::new(and(and(a, faulty_side(Fault::None, which + 3)), b))))));
+                }
+            }
+            for fault in [Fault::Zero, Fault::Size] {
+                for truth in [True, False] {
+                    add(&registers, &and(truth.clone(), faulty_side(fault, which)));
+                    add(&registers, &and(faulty_side(fault, which + 1), truth));
+                    which += 1;
+                }
+            }
+        }
+    }
+
+    /// A part of an "and" that keeps a divisor off 0, or a value off the highest:
+    /// it comes too late, but in an if of its own it comes in time.
+    fn narrowing_faults(&mut self, entries: &mut Vec<Entry>) {
+        let mut add = |statements: Vec<Statement>| {
+            let registers = vec![(0, 3), (5, i32::MAX), (2, 3)];
+            let plan = Plan::of(0, vec![], vec![Thread { registers, statements }]);
+            entries.push(Entry { sheet: plan.bytes(), length: PLAIN });
+        };
+        let zero = || operation(DIVIDE, Constant(7), Register(0));
+        let size = || operation(PLUS, Register(1), Constant(1));
+        let not_zero = || Comparison(LESS, Constant(0), Register(0));
+        let not_highest = || Comparison(LESS, Register(1), Constant(i32::MAX));
+        for code in [EQUAL, LESS] {
+            let both = || Comparison(code, zero(), size());
+            let turned = || Comparison(code, size(), zero());
+            for condition in [
+                and(not_zero(), Comparison(code, zero(), Constant(9))),
+                and(not_highest(), Comparison(code, Constant(9), size())),
+                and(not_zero(), both()),
+                and(not_zero(), turned()),
+                and(not_highest(), both()),
+                and(not_highest(), turned()),
+                and(and(not_zero(), not_highest()), both()),
+                and(not_zero(), and(not_highest(), turned())),
+                and(not(not_highest()), turned()),
+                and(Comparison(EQUAL, Register(0), Constant(2)), both()),
+                and(False, turned()),
+                not(and(not(not_highest()), turned())),
+                not(and(not_highest(), not(turned()))),
+            ] {
+                add(vec![jump((1, 1), 2, &condition), skip((1, 1)), halt()]);
+            }
+        }
+        for (guard, value) in [(not_zero(), zero()), (not_highest(), size())] {
+            for guard in [guard.clone(), not(not(guard.clone())), and(guard.clone(), True)] {
+                add(vec![jump((1, 1), 2, &guard), halt(), assign((1, 1), 2, &value), halt()]);
+                // the branch on which it does not hold
+                add(vec![jump((1, 1), 2, &guard), assign((1, 1), 2, &value), halt()]);
+            }
+        }
+        // equal takes no value off
+        for (register, value, fault) in [(0, 0, zero()), (1, i32::MAX, size())] {
+            let is = Comparison(EQUAL, Register(register), Constant(value));
+            add(vec![jump((1, 1), 2, &is), assign((1, 1), 2, &fault), halt()]);
+            add(vec![jump((1, 1), 2, &not(is)), halt(), assign((1, 1), 2, &fault), halt()]);
+        }
+    }
+
+    /// A statement with that fault, or with none: an assignment or an if.
+    fn statement_with(&mut self, fault: Fault, times: Times, as_if: bool, next: usize) -> Statement {
+        let which = self.random.below(60);
+        if as_if {
+            jump(times, next, &faulty_side(fault, which))
+        } else {
+            assign(times, 2, &part(fault, which))
+        }
+    }
+
+    /// A fault on one branch of an if, or another one on each.
+    fn branch_faults(&mut self, entries: &mut Vec<Entry>) {
+        let open = Comparison(LESS, Register(2), Constant(3));
+        for yes in FAULTS {
+            for no in FAULTS {
+                for as_if in [false, true] {
+                    for (a, b) in [((1, 1), (1, 1)), ((3, 3), (1, 2))] {
+                        let statements = vec![
+                            jump((1, 1), 3, &open),
+                            self.statement_with(no, a, as_if, 2),
+                            halt(),
+                            skip((1, 1)),
+                            self.statement_with(yes, b, !as_if, 5),
+                            halt(),
+                        ];
+                        let plan = Plan::of(0, vec![], vec![Thread { registers: WIDE.to_vec(), statements }]);
+                        entries.push(Entry { sheet: plan.bytes(), length: PLAIN });
+                    }
+                }
+            }
+        }
+    }
+
+    /// Threads with different faults: the first that has an event decides.
+    fn thread_faults(&mut self, entries: &mut Vec<Entry>) {
+        let mut plans = Vec::new();
+        let thread = |statements: Vec<Statement>| Thread { registers: WIDE.to_vec(), statements };
+        let waits = Thread { registers: vec![], statements: vec![skip((1, 2)), halt()] };
+        let faults = [Fault::Zero, Fault::Size];
+        for first in faults {
+            for second in faults {
+                for (a, b) in [(false, false), (false, true), (true, false), (true, true)] {
+                    for (slow, fast) in [((1, 1), (1, 1)), ((5, 5), (1, 1)), ((2, 3), (1, 2)), ((1, 2), (4, 9))] {
+                        let threads = vec![
+                            thread(vec![self.statement_with(first, slow, a, 1), halt()]),
+                            thread(vec![self.statement_with(second, fast, b, 1), halt()]),
+                        ];
+                        if a != b || first != second {
+                            plans.push(Plan::of(0, vec![], threads));
+                        }
+                    }
+                }
+                // a third thread before, between and after
+                for place in 0..3 {
+                    let as_if = self.random.chance(50);
+                    let mut threads = vec![
+                        thread(vec![self.statement_with(first, (1, 2), as_if, 1), halt()]),
+                        thread(vec![self.statement_with(second, (1, 3), !as_if, 1), halt()]),
+                    ];
+                    threads.insert(place, waits.clone());
+                    plans.push(Plan::of(0, vec![], threads));
+                }
+                // a loop before the one, a wait before the other
+                for (turns, wait) in [(2, 1), (2, 4), (2, 9)] {
+                    let more = operation(PLUS, Register(4), Constant(1));
+                    let again = Comparison(LESS, Register(4), Constant(turns));
+                    let statements = vec![
+                        assign((1, 1), 4, &more),
+                        jump((1, 1), 0, &again),
+                        self.statement_with(first, (1, 1), false, 3),
+                        halt(),
+                    ];
+                    let looping = Thread { registers: [&WIDE[..], &[(0, 0)]].concat(), statements };
+                    let last = self.statement_with(second, (1, 1), false, 2);
+                    let waiting = thread(vec![skip((wait, wait)), last, halt()]);
+                    plans.push(Plan::of(0, vec![], vec![looping.clone(), waiting.clone()]));
+                    plans.push(Plan::of(0, vec![], vec![waiting, looping]));
+                }
+            }
+        }
+        // a value that another thread stores first, or has not stored yet
+        for (fault, stored) in [(Fault::Zero, 0), (Fault::Size, i32::MAX)] {
+            for (a, b) in [((1, 1), (5, 5)), ((5, 5), (1, 1)), ((1, 3), (1, 3))] {
+                let stores = Thread { registers: vec![(stored, stored)], statements: vec![store(a, 0, 0), halt()] };
+                let value = match fault {
+                    Fault::Zero => operation(DIVIDE, Constant(7), Register(0)),
+                    _ => operation(PLUS, Register(0), Constant(7)),
+                };
+                let statements = vec![load(b, 0, 0), assign((1, 1), 0, &value), halt()];
+                let loads = Thread { registers: vec![(1, 1)], statements };
+                plans.push(Plan::of(0, vec![(4, 5)], vec![stores.clone(), loads.clone()]));
+                plans.push(Plan::of(0, vec![(4, 5)], vec![loads, stores]));
+            }
+        }
+        // one thread waits for a lock for good; stuck only once the other has halted
+        let takes = Thread { registers: vec![], statements: vec![lock((1, 1), 0), halt()] };
+        let wants = Thread { registers: vec![], statements: vec![skip((2, 2)), lock((1, 1), 0), halt()] };
+        for fault in FAULTS {
+            let last = thread(vec![skip((4, 4)), self.statement_with(fault, (1, 1), false, 2), halt()]);
+            plans.push(Plan::of(1, vec![], vec![takes.clone(), wants.clone(), last.clone()]));
+            plans.push(Plan::of(1, vec![], vec![last, wants.clone(), takes.clone()]));
+        }
+        for plan in plans {
+            entries.push(Entry { sheet: plan.limited(60).bytes(), length: PLAIN });
+        }
+        // states made before the fault, more than there are slots
+        let branches = thread(vec![jump((1, 1), 1, &Comparison(LESS, Register(2), Constant(3))), halt()]);
+        for fault in faults {
+            for as_if in [false, true] {
+                let last = thread(vec![self.statement_with(fault, (1, 1), as_if, 1), halt()]);
+                for (threads, most) in [
+                    (vec![waits.clone(), waits.clone(), waits.clone(), last.clone()], 3),
+                    (vec![branches.clone(), last.clone()], 2),
+                    (vec![branches.clone(), waits.clone(), last], 3),
+                ] {
+                    for slots in 1..=most {
+                        let sheet = Plan::of(0, vec![], threads.clone()).limited(60).bytes();
+                        entries.push(Entry { sheet, length: 100 * slots });
+                    }
+                }
+            }
+        }
+    }
+
     /// A sheet with every kind of field, ended after each of its bytes.
     fn cuts(&mut self, entries: &mut Vec<Entry>) {
         let statements = vec![
@@ -1958,15 +2464,20 @@ impl Generator {
     fn order_edges(&mut self, entries: &mut Vec<Entry>) {
         let thread = |statements: Vec<Statement>| Thread { registers: vec![], statements };
         let waits = thread(vec![skip((1, 3)), halt()]);
-        let divides = |times: Times| {
-            let value = Operation(DIVIDE, Box::new(Constant(1)), Box::new(Register(0)));
-            Thread { registers: vec![(-1, 1)], statements: vec![assign(times, 0, &value), halt()] }
+        let faulty = |value: Arithmetic, times: Times| Thread {
+            registers: vec![(-1, 1)],
+            statements: vec![assign(times, 0, &value), halt()],
         };
+        let divides = |times: Times| faulty(operation(DIVIDE, Constant(1), Register(0)), times);
+        let grows = |times: Times| faulty(operation(MINUS, Register(0), Constant(i32::MIN)), times);
         let both = |first, second| thread(vec![lock((1, 1), first), lock((1, 1), second), halt()]);
         for threads in [
             vec![waits.clone(), waits.clone(), divides((1, 3))],
             vec![waits.clone(), divides((3, 3)), divides((1, 4))],
             vec![waits.clone(), divides((4, 4)), waits.clone()],
+            vec![waits.clone(), waits.clone(), grows((1, 3))],
+            vec![waits.clone(), grows((3, 3)), divides((1, 4))],
+            vec![waits.clone(), grows((4, 4)), waits.clone()],
             vec![waits.clone(), waits.clone(), waits],
             vec![both(0, 1), both(1, 0)],
         ] {
@@ -2099,6 +2610,10 @@ impl Generator {
             entries.push(Entry { sheet, length });
         }
     }
+}
+
+fn operation(operator: u8, left: Arithmetic, right: Arithmetic) -> Arithmetic {
+    Operation(operator, Box::new(left), Box::new(right))
 }
 
 fn not(condition: Condition) -> Condition {

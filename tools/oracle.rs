@@ -51,6 +51,7 @@ const PAST_THE_LIMIT: u8 = 12;
 const OUT_OF_STEPS: u8 = 13;
 const OUT_OF_ROOM: u8 = 14;
 const LABEL_BROKEN: u8 = 15;
+const OFF_THE_SCALE: u8 = 16;
 
 // ---------------------------------------------------------------------------
 // The program
@@ -463,43 +464,60 @@ impl Operand<'_> {
 // Arithmetic on values
 // ---------------------------------------------------------------------------
 
+/// Why arithmetic has no result, as a refusal's number: "a divisor that may be 0
+/// stays 10, a result off the 32-bit values becomes its own number", 16. "Within
+/// one expression the left operand speaks first, then the right, then the
+/// operator": the first fault met is passed up, here and with intervals.
+type Fault = u8;
+
 /// "Division drops the fraction toward zero. A zero divisor or a result
 /// outside −2,147,483,648..2,147,483,647 has no result."
-fn apply(operator: Operator, left: i32, right: i32) -> Option<i32> {
+fn apply(operator: Operator, left: i32, right: i32) -> Result<i32, Fault> {
     let (left, right) = (i64::from(left), i64::from(right));
     let result = match operator {
         Operator::Plus => left + right,
         Operator::Minus => left - right,
         Operator::Times => left * right,
-        Operator::Divide if right == 0 => return None,
+        // "for a divide, zero before size"
+        Operator::Divide if right == 0 => return Err(NO_READING),
         Operator::Divide => left / right,
     };
-    i32::try_from(result).ok()
+    i32::try_from(result).map_err(|_| OFF_THE_SCALE)
 }
 
-fn value_of(expression: &Arithmetic, registers: &[i32; MAX_REGISTERS]) -> Option<i32> {
+fn value_of(expression: &Arithmetic, registers: &[i32; MAX_REGISTERS]) -> Result<i32, Fault> {
     match expression {
-        Arithmetic::Constant(value) => Some(*value),
-        Arithmetic::Register(register) => Some(registers[*register]),
+        Arithmetic::Constant(value) => Ok(*value),
+        Arithmetic::Register(register) => Ok(registers[*register]),
         Arithmetic::Operation(operator, left, right) => {
-            apply(*operator, value_of(left, registers)?, value_of(right, registers)?)
+            let left = value_of(left, registers)?;
+            let right = value_of(right, registers)?;
+            apply(*operator, left, right)
         }
     }
 }
 
 /// "Both sides of "and" are always worked out."
-fn truth_of(condition: &Condition, registers: &[i32; MAX_REGISTERS]) -> Option<bool> {
+fn truth_of(condition: &Condition, registers: &[i32; MAX_REGISTERS]) -> Result<bool, Fault> {
     match condition {
-        Condition::True => Some(true),
-        Condition::False => Some(false),
-        Condition::Not(operand) => Some(!truth_of(operand, registers)?),
+        Condition::True => Ok(true),
+        Condition::False => Ok(false),
+        Condition::Not(operand) => Ok(!truth_of(operand, registers)?),
         Condition::And(left, right) => {
             let left = truth_of(left, registers)?;
             let right = truth_of(right, registers)?;
-            Some(left && right)
+            Ok(left && right)
         }
-        Condition::Equal(left, right) => Some(value_of(left, registers)? == value_of(right, registers)?),
-        Condition::Less(left, right) => Some(value_of(left, registers)? < value_of(right, registers)?),
+        Condition::Equal(left, right) => {
+            let left = value_of(left, registers)?;
+            let right = value_of(right, registers)?;
+            Ok(left == right)
+        }
+        Condition::Less(left, right) => {
+            let left = value_of(left, registers)?;
+            let right = value_of(right, registers)?;
+            Ok(left < right)
+        }
     }
 }
 
@@ -509,18 +527,19 @@ fn truth_of(condition: &Condition, registers: &[i32; MAX_REGISTERS]) -> Option<b
 
 type Registers = [Interval; MAX_REGISTERS];
 
-/// "Arithmetic takes least and greatest over the interval ends". None is
-/// refusal 10: "a divisor's interval holds 0, or a result's interval leaves
-/// the 32-bit values".
-fn interval_of(expression: &Arithmetic, registers: &Registers) -> Option<Interval> {
+/// "Arithmetic takes least and greatest over the interval ends". Err is 10 where
+/// "a divisor's interval holds 0", 16 where "a result's interval leaves the 32-bit
+/// values": "the left operand speaks first, then the right, then the operator;
+/// for a divide, zero before size".
+fn interval_of(expression: &Arithmetic, registers: &Registers) -> Result<Interval, Fault> {
     match expression {
-        Arithmetic::Constant(value) => Some(Interval::single(*value)),
-        Arithmetic::Register(register) => Some(registers[*register]),
+        Arithmetic::Constant(value) => Ok(Interval::single(*value)),
+        Arithmetic::Register(register) => Ok(registers[*register]),
         Arithmetic::Operation(operator, left, right) => {
             let left = interval_of(left, registers)?;
             let right = interval_of(right, registers)?;
             if *operator == Operator::Divide && right.low <= 0 && 0 <= right.high {
-                return None;
+                return Err(NO_READING);
             }
             let ends = [
                 apply(*operator, left.low, right.low)?,
@@ -530,20 +549,25 @@ fn interval_of(expression: &Arithmetic, registers: &Registers) -> Option<Interva
             ];
             let low = ends[0].min(ends[1]).min(ends[2]).min(ends[3]);
             let high = ends[0].max(ends[1]).max(ends[2]).max(ends[3]);
-            Some(Interval { low, high })
+            Ok(Interval { low, high })
         }
     }
 }
 
 /// "10 is given in every part of a condition with the registers as they stand
-/// before narrowing"
-fn has_reading(condition: &Condition, registers: &Registers) -> bool {
+/// before narrowing", and so is 16: the left part's, then the right part's.
+fn reading(condition: &Condition, registers: &Registers) -> Result<(), Fault> {
     match condition {
-        Condition::True | Condition::False => true,
-        Condition::Not(operand) => has_reading(operand, registers),
-        Condition::And(left, right) => has_reading(left, registers) && has_reading(right, registers),
+        Condition::True | Condition::False => Ok(()),
+        Condition::Not(operand) => reading(operand, registers),
+        Condition::And(left, right) => {
+            reading(left, registers)?;
+            reading(right, registers)
+        }
         Condition::Equal(left, right) | Condition::Less(left, right) => {
-            interval_of(left, registers).is_some() && interval_of(right, registers).is_some()
+            interval_of(left, registers)?;
+            interval_of(right, registers)?;
+            Ok(())
         }
     }
 }
@@ -617,8 +641,8 @@ fn narrow(condition: &Condition, yes: bool, registers: &mut Registers) -> bool {
 /// The intervals of both sides. Narrowing makes intervals smaller, so a reading
 /// before narrowing is a reading after it.
 fn both(left: &Arithmetic, right: &Arithmetic, registers: &Registers) -> (Interval, Interval) {
-    let reading = "narrowing keeps a reading";
-    (interval_of(left, registers).expect(reading), interval_of(right, registers).expect(reading))
+    let kept = "narrowing keeps a reading";
+    (interval_of(left, registers).expect(kept), interval_of(right, registers).expect(kept))
 }
 
 /// If the side is one register, its low becomes at least the bound. "A register
@@ -787,8 +811,8 @@ fn search(program: &Program, slots: usize) -> Answer {
             return refused(PAST_THE_LIMIT, 0, steps);
         }
         let held = stack.len();
-        if let Err(place) = push_successors(program, &state, bound, &mut stack) {
-            return refused(NO_READING, place, steps);
+        if let Err(Refusal { number, place }) = push_successors(program, &state, bound, &mut stack) {
+            return refused(number, place, steps);
         }
         if stack.len() > slots {
             return refused(OUT_OF_ROOM, 0, steps);
@@ -801,9 +825,10 @@ fn search(program: &Program, slots: usize) -> Answer {
     Answer { refusal: if kept { 0 } else { LABEL_BROKEN }, place: 0, steps, low, high }
 }
 
-/// Pushes the successors of a state in the order they are made. Err is the
-/// place of a statement without a reading.
-fn push_successors(program: &Program, state: &State, bound: u64, stack: &mut Vec<State>) -> Result<(), usize> {
+/// Pushes the successors of a state in the order they are made. Err is the fault
+/// of the first thread that has an event and a fault, with its statement's place:
+/// 10, or 16 "tried where 10 is ... with 10's place".
+fn push_successors(program: &Program, state: &State, bound: u64, stack: &mut Vec<State>) -> Result<(), Refusal> {
     let latest_low = state.window(program).low;
     // "Each live thread in turn, lowest number first"
     for thread in 0..program.threads.len() {
@@ -817,10 +842,9 @@ fn push_successors(program: &Program, state: &State, bound: u64, stack: &mut Vec
         if from > bound {
             continue;
         }
+        let at_fault = |number| Refusal { number, place: statement.place };
         if let Action::If { target, condition } = &statement.action {
-            if !has_reading(condition, &state.threads[thread].registers) {
-                return Err(statement.place);
-            }
+            reading(condition, &state.threads[thread].registers).map_err(at_fault)?;
             // "An if makes the yes state (jump), then the no state (move on),
             // leaving out an empty one."
             let next = state.threads[thread].statement + 1;
@@ -837,7 +861,7 @@ fn push_successors(program: &Program, state: &State, bound: u64, stack: &mut Vec
         }
         let value = match &statement.action {
             Action::Assign { value, .. } => {
-                interval_of(value, &state.threads[thread].registers).ok_or(statement.place)?
+                interval_of(value, &state.threads[thread].registers).map_err(at_fault)?
             }
             _ => Interval::ZERO,
         };
@@ -906,7 +930,7 @@ struct RunState {
 
 enum Step {
     NotAnEvent,
-    NoResult,
+    NoResult(Fault),
     Next(RunState),
 }
 
@@ -997,13 +1021,13 @@ fn step(program: &Program, state: &RunState, thread: usize, tick: u64) -> Step {
     match &state.statement(program, thread).action {
         Action::Halt | Action::Skip => {}
         Action::Assign { register, value } => match value_of(value, &own.registers) {
-            Some(value) => own.registers[*register] = value,
-            None => return Step::NoResult,
+            Ok(value) => own.registers[*register] = value,
+            Err(fault) => return Step::NoResult(fault),
         },
         Action::If { target, condition } => match truth_of(condition, &own.registers) {
-            Some(true) => own.statement = *target,
-            Some(false) => {}
-            None => return Step::NoResult,
+            Ok(true) => own.statement = *target,
+            Ok(false) => {}
+            Err(fault) => return Step::NoResult(fault),
         },
         Action::Store { register, variable } => next.variables[*variable] = own.registers[*register],
         Action::Load { register, variable } => own.registers[*register] = next.variables[*variable],
@@ -1021,7 +1045,10 @@ fn step(program: &Program, state: &RunState, thread: usize, tick: u64) -> Step {
 #[derive(Clone, PartialEq, Eq, Debug)]
 pub struct Figures {
     pub finished: u64,
-    pub no_result: u64,
+    /// an event's arithmetic has no result: a divisor is 0
+    pub no_reading: u64,
+    /// the same, a result leaves the 32-bit values
+    pub off_the_scale: u64,
     /// every live thread waits for a lock another owns
     pub stuck: u64,
     /// an event stands past the time limit; the run was followed no further
@@ -1033,7 +1060,16 @@ pub struct Figures {
 
 impl Figures {
     fn new() -> Figures {
-        Figures { finished: 0, no_result: 0, stuck: 0, past_limit: 0, low: u64::MAX, high: 0, longest: 0 }
+        Figures {
+            finished: 0,
+            no_reading: 0,
+            off_the_scale: 0,
+            stuck: 0,
+            past_limit: 0,
+            low: u64::MAX,
+            high: 0,
+            longest: 0,
+        }
     }
 
     /// Counts a state reached after the given number of events; true if the run
@@ -1059,15 +1095,19 @@ impl Figures {
     }
 
     /// Counts a run ended by an event without a result.
-    fn count_no_result(&mut self, events: u64) {
-        self.no_result += 1;
+    fn count_no_result(&mut self, fault: Fault, events: u64) {
+        match fault {
+            NO_READING => self.no_reading += 1,
+            _ => self.off_the_scale += 1,
+        }
         self.longest = self.longest.max(events);
     }
 }
 
 impl fmt::Display for Figures {
     fn fmt(&self, f: &mut fmt::Formatter) -> fmt::Result {
-        write!(f, "finished {} no-result {} ", self.finished, self.no_result)?;
+        write!(f, "finished {} no-reading {} ", self.finished, self.no_reading)?;
+        write!(f, "off-the-scale {} ", self.off_the_scale)?;
         if self.finished == 0 {
             write!(f, "low - high - ")?;
         } else {
@@ -1129,8 +1169,8 @@ fn random_runs(program: &Program, seed: u64, count: u64) -> Figures {
             events += 1;
             match step(program, &state, thread, tick) {
                 Step::Next(next) => state = next,
-                Step::NoResult => {
-                    figures.count_no_result(events);
+                Step::NoResult(fault) => {
+                    figures.count_no_result(fault, events);
                     break;
                 }
                 Step::NotAnEvent => unreachable!("the tick is one of the thread's"),
@@ -1172,7 +1212,7 @@ fn all_runs(program: &Program, cap: u64) -> (Figures, bool) {
                     explored += 1;
                     match step(program, &state, thread, tick) {
                         Step::Next(next) => stack.push((next, events + 1)),
-                        Step::NoResult => figures.count_no_result(events + 1),
+                        Step::NoResult(fault) => figures.count_no_result(fault, events + 1),
                         Step::NotAnEvent => unreachable!("the tick is one of the thread's"),
                     }
                 }
@@ -1575,11 +1615,248 @@ mod tests {
             let quotient = Arithmetic::Operation(Operator::Divide, Box::new(constant(value)), Box::new(register(0)));
             interval_of(&quotient, &with(&[(low, high)]))
         };
-        assert_eq!(divided(10, -1, 1), None);
-        assert_eq!(divided(10, 1, 5), Some(Interval { low: 2, high: 10 }));
-        assert_eq!(divided(-7, 2, 2), Some(Interval { low: -3, high: -3 }));
-        assert_eq!(divided(i32::MIN, -1, -1), None);
-        assert_eq!(divided(i32::MIN, -2, -1), None);
+        assert_eq!(divided(10, -1, 1), Err(NO_READING));
+        assert_eq!(divided(10, 1, 5), Ok(Interval { low: 2, high: 10 }));
+        assert_eq!(divided(-7, 2, 2), Ok(Interval { low: -3, high: -3 }));
+        // "Case G's lowest value by −1 changes its number."
+        assert_eq!(divided(i32::MIN, -1, -1), Err(OFF_THE_SCALE));
+        assert_eq!(divided(i32::MIN, -2, -1), Err(OFF_THE_SCALE));
+        assert_eq!(divided(i32::MIN, -3, -2), Ok(Interval { low: 715_827_882, high: 1 << 30 }));
+    }
+
+    const OPERATORS: [Operator; 4] = [Operator::Plus, Operator::Minus, Operator::Times, Operator::Divide];
+
+    fn operation(operator: Operator, left: Arithmetic, right: Arithmetic) -> Arithmetic {
+        Arithmetic::Operation(operator, Box::new(left), Box::new(right))
+    }
+
+    /// 6, or an expression with the fault.
+    fn part(fault: Option<Fault>) -> Arithmetic {
+        match fault {
+            None => constant(6),
+            Some(NO_READING) => operation(Operator::Divide, constant(1), constant(0)),
+            Some(_) => operation(Operator::Plus, constant(i32::MAX), constant(1)),
+        }
+    }
+
+    /// 6 < 7 or 7 < 6, or a comparison with the fault on its left or on its right.
+    fn part_of_and(fault: Option<Fault>, holds: bool, on_left: bool) -> Condition {
+        match fault {
+            None if holds => Condition::Less(constant(6), constant(7)),
+            None => Condition::Less(constant(7), constant(6)),
+            Some(_) if on_left => Condition::Equal(part(fault), constant(6)),
+            Some(_) => Condition::Equal(constant(6), part(fault)),
+        }
+    }
+
+    const FAULTS: [Option<Fault>; 3] = [None, Some(NO_READING), Some(OFF_THE_SCALE)];
+
+    /// "the left operand speaks first, then the right, then the operator"
+    #[test]
+    fn zero_or_size_in_an_expression() {
+        let (values, intervals) = ([0; MAX_REGISTERS], with(&[]));
+        for operator in OPERATORS {
+            for left in FAULTS {
+                for right in FAULTS {
+                    let whole = operation(operator, part(left), part(right));
+                    assert_eq!(value_of(&whole, &values).err(), left.or(right), "{whole:?}");
+                    assert_eq!(interval_of(&whole, &intervals).err(), left.or(right), "{whole:?}");
+                    // one deeper, on either side of another operator
+                    let (zero, size) = (Some(NO_READING), Some(OFF_THE_SCALE));
+                    let on_left = operation(Operator::Minus, whole, part(zero));
+                    assert_eq!(value_of(&on_left, &values).err(), left.or(right).or(zero), "{on_left:?}");
+                    assert_eq!(interval_of(&on_left, &intervals).err(), left.or(right).or(zero), "{on_left:?}");
+                    let whole = operation(operator, part(left), part(right));
+                    let on_right = operation(Operator::Times, part(size), whole);
+                    assert_eq!(value_of(&on_right, &values).err(), size, "{on_right:?}");
+                    assert_eq!(interval_of(&on_right, &intervals).err(), size, "{on_right:?}");
+                }
+                // the operator's zero comes after the left operand
+                let whole = operation(Operator::Divide, part(left), constant(0));
+                assert_eq!(value_of(&whole, &values), Err(left.unwrap_or(NO_READING)));
+                assert_eq!(interval_of(&whole, &intervals), Err(left.unwrap_or(NO_READING)));
+            }
+        }
+    }
+
+    /// "for a divide, zero before size"
+    #[test]
+    fn zero_before_size() {
+        let quotient = operation(Operator::Divide, register(0), register(1));
+        for (left, right, fault) in [
+            ((i32::MIN, i32::MIN), (-1, -1), OFF_THE_SCALE),
+            ((i32::MIN, i32::MIN), (-1, 0), NO_READING),
+            ((i32::MIN, i32::MIN), (-1, 1), NO_READING),
+            ((i32::MIN, i32::MIN), (-2, 3), NO_READING),
+            ((i32::MIN, i32::MIN), (0, 0), NO_READING),
+            ((i32::MIN, 5), (-7, 0), NO_READING),
+            ((i32::MIN, 5), (-7, -1), OFF_THE_SCALE),
+            ((i32::MIN + 1, 5), (-1, 0), NO_READING),
+        ] {
+            assert_eq!(interval_of(&quotient, &with(&[left, right])), Err(fault), "{left:?} by {right:?}");
+        }
+        for (left, right, result) in [
+            (i32::MIN, -1, Err(OFF_THE_SCALE)),
+            (i32::MIN, 0, Err(NO_READING)),
+            (i32::MIN + 1, -1, Ok(i32::MAX)),
+        ] {
+            assert_eq!(apply(Operator::Divide, left, right), result);
+        }
+        // a result leaves the 32-bit values by either end
+        for (operator, left, right) in [
+            (Operator::Plus, (1, 5), (i32::MAX - 4, i32::MAX - 4)),
+            (Operator::Plus, (-5, -1), (i32::MIN + 4, i32::MIN + 4)),
+            (Operator::Minus, (-5, 5), (i32::MIN + 5, i32::MIN + 5)),
+            (Operator::Minus, (-5, 5), (i32::MAX - 3, i32::MAX - 3)),
+            (Operator::Times, (-1, 65_536), (0, 32_768)),
+            (Operator::Times, (-65_537, 1), (0, 32_768)),
+        ] {
+            let whole = operation(operator, register(0), register(1));
+            assert_eq!(interval_of(&whole, &with(&[left, right])), Err(OFF_THE_SCALE), "{left:?} {right:?}");
+            let (left, right) = ((left.0 + 1, left.1 - 1), right);
+            assert!(interval_of(&whole, &with(&[left, right])).is_ok(), "{:?} {:?}", left, right);
+        }
+    }
+
+    /// Conditions pass it up, the left part first; not, "and", equal and less add nothing.
+    #[test]
+    fn zero_or_size_in_a_condition() {
+        let (values, intervals) = ([0; MAX_REGISTERS], with(&[]));
+        let is = |condition: Condition, expected: Option<Fault>| {
+            assert_eq!(truth_of(&condition, &values).err(), expected, "{condition:?}");
+            assert_eq!(reading(&condition, &intervals).err(), expected, "{condition:?}");
+            let not = Condition::Not(Box::new(condition));
+            assert_eq!(truth_of(&not, &values).err(), expected, "{not:?}");
+            assert_eq!(reading(&not, &intervals).err(), expected, "{not:?}");
+        };
+        for left in FAULTS {
+            for right in FAULTS {
+                is(Condition::Equal(part(left), part(right)), left.or(right));
+                is(Condition::Less(part(left), part(right)), left.or(right));
+                for holds in [false, true] {
+                    for on_left in [false, true] {
+                        let side = |fault| Box::new(part_of_and(fault, holds, on_left));
+                        is(Condition::And(side(left), side(right)), left.or(right));
+                        let not = Box::new(Condition::Not(side(left)));
+                        is(Condition::And(not, side(right)), left.or(right));
+                    }
+                }
+            }
+        }
+        is(Condition::And(Box::new(Condition::False), Box::new(part_of_and(FAULTS[2], true, true))), FAULTS[2]);
+        // before narrowing: r0 below the highest value, r0 + 1
+        let guarded = Condition::And(
+            Box::new(Condition::Less(register(0), constant(i32::MAX))),
+            Box::new(Condition::Less(operation(Operator::Plus, register(0), constant(1)), constant(7))),
+        );
+        assert_eq!(reading(&guarded, &with(&[(5, i32::MAX)])), Err(OFF_THE_SCALE));
+        assert_eq!(reading(&guarded, &with(&[(5, i32::MAX - 1)])), Ok(()));
+    }
+
+    /// Between threads the first that has an event and a fault decides.
+    #[test]
+    fn zero_or_size_between_threads() {
+        let zero = [21, 16, 0, 0, 0, 1, 17, 0];
+        let size = [20, 16, 127, 255, 255, 255, 16, 0, 0, 0, 2];
+        let skip = |time| statement(time, time, &[1]);
+        let assign = |time, value: &[u8]| statement(time, time, &[&[2, 0], value].concat());
+        let test = |time, value: &[u8]| statement(time, time, &[&[3, 1, 34, 36], value, &[17, 0]].concat());
+        // a thread's statements stand 15 bytes after its start
+        let both = |first: Vec<u8>, second: Vec<u8>| {
+            let first = thread(1, &[first, halt()]);
+            let place = 23 + first.len() + 15;
+            let answer = check(&[opening(0, 0), first, thread(1, &[second, halt()])].concat(), DEFAULT_LENGTH);
+            assert_eq!((answer.low, answer.high), (0, 0));
+            (answer.refusal, answer.place == place, answer.steps)
+        };
+        for makes in [&assign as &dyn Fn(u16, &[u8]) -> Vec<u8>, &test] {
+            assert_eq!(both(makes(1, &zero), makes(1, &size)), (NO_READING, false, 1));
+            assert_eq!(both(makes(1, &size), makes(1, &zero)), (OFF_THE_SCALE, false, 1));
+            assert_eq!(both(skip(1), makes(1, &zero)), (NO_READING, true, 1));
+            assert_eq!(both(skip(1), makes(1, &size)), (OFF_THE_SCALE, true, 1));
+            // the first is passed over: nothing of it is worked out
+            assert_eq!(both(makes(2, &zero), makes(1, &size)), (OFF_THE_SCALE, true, 1));
+            assert_eq!(both(makes(2, &size), makes(1, &zero)), (NO_READING, true, 1));
+            // 12 is tried before
+            assert_eq!(both(makes(11, &size), makes(11, &zero)), (PAST_THE_LIMIT, false, 1));
+        }
+    }
+
+    /// A run over single values says which, in the same order.
+    #[test]
+    fn zero_or_size_in_a_run() {
+        // r0 := r0 * r1 + 1 / r1
+        let sum = [18, 20, 17, 0, 17, 1, 21, 16, 0, 0, 0, 1, 17, 1];
+        let value = [&[2, 0][..], &sum].concat();
+        // if r1 < that goto 1
+        let test = [&[3, 1, 37, 17, 1][..], &sum].concat();
+        for rest in [value, test] {
+            let sheet = [
+                opening(0, 0),
+                field(4, &[2]),
+                range(5, i32::MAX - 1, i32::MAX),
+                range(5, 0, 2),
+                statement(1, 1, &rest),
+                halt(),
+            ]
+            .concat();
+            assert_eq!(refusal(&sheet), (OFF_THE_SCALE, 49));
+            let program = read_program(&sheet).unwrap();
+            let ends = |first, second| match step(&program, &RunState::first(&program, &[first, second]), 0, 1) {
+                Step::NoResult(fault) => Some(fault),
+                Step::Next(_) => None,
+                Step::NotAnEvent => panic!(),
+            };
+            assert_eq!(ends(i32::MAX, 0), Some(NO_READING));
+            assert_eq!(ends(i32::MAX, 2), Some(OFF_THE_SCALE));
+            // the product fits, the sum only with the lower value
+            assert_eq!(ends(i32::MAX, 1), Some(OFF_THE_SCALE));
+            assert_eq!(ends(i32::MAX - 1, 1), None);
+            let (figures, complete) = all_runs(&program, 1000);
+            assert!(complete);
+            assert_eq!((figures.finished, figures.no_reading, figures.off_the_scale), (1, 2, 3));
+        }
+    }
+
+    fn random_arithmetic(random: &mut Random, depth: usize) -> Arithmetic {
+        let constants = [i32::MIN, i32::MIN + 1, -65_536, -2, -1, 0, 1, 2, 65_536, i32::MAX - 1, i32::MAX];
+        match random.below(6) {
+            0 | 1 if depth > 1 => register(random.below(3) as usize),
+            _ if depth > 1 => {
+                let operator = OPERATORS[random.below(4) as usize];
+                operation(operator, random_arithmetic(random, depth - 1), random_arithmetic(random, depth - 1))
+            }
+            0..=2 => register(random.below(3) as usize),
+            _ => constant(constants[random.below(constants.len() as u64) as usize]),
+        }
+    }
+
+    /// On single values intervals say what a run says, fault and all; on wider ones
+    /// an interval holds the results of all its values, and these have results.
+    #[test]
+    fn intervals_and_runs() {
+        let mut random = Random(1);
+        let mut of = [0; 3];
+        for _ in 0..100_000 {
+            let whole = random_arithmetic(&mut random, 4);
+            let mut values = [0; MAX_REGISTERS];
+            for value in &mut values[..3] {
+                *value = random.within(-3, 3) as i32;
+            }
+            let result = value_of(&whole, &values);
+            assert_eq!(interval_of(&whole, &values.map(Interval::single)), result.map(Interval::single), "{whole:?}");
+            of[match result {
+                Ok(_) => 0,
+                Err(NO_READING) => 1,
+                Err(_) => 2,
+            }] += 1;
+            let wide = values.map(|value| Interval { low: value - 1, high: value + 2 });
+            if let Ok(range) = interval_of(&whole, &wide) {
+                let value = result.unwrap_or_else(|fault| panic!("{}: {:?}", fault, whole));
+                assert!(range.low <= value && value <= range.high, "{:?}", whole);
+            }
+        }
+        assert!(of.iter().all(|&count| count > 5_000), "{:?}", of);
     }
 
     #[test]
@@ -1634,7 +1911,7 @@ mod tests {
         .concat();
         assert_eq!(refusal(&sheet), (NO_READING, 38));
         let program = read_program(&sheet).unwrap();
-        assert!(matches!(step(&program, &RunState::first(&program, &[0]), 0, 1), Step::NoResult));
+        assert!(matches!(step(&program, &RunState::first(&program, &[0]), 0, 1), Step::NoResult(NO_READING)));
         assert!(matches!(step(&program, &RunState::first(&program, &[1]), 0, 1), Step::Next(_)));
     }
 
@@ -1654,6 +1931,10 @@ mod tests {
         let divide = |least| thread(1, &[statement(least, least, &[2, 0, 21, 17, 0, 17, 0]), halt()]);
         let sheet = [opening(0, 0), skip(1, 1), skip(1, 1), divide(1)].concat();
         assert_eq!(numbers(&sheet, 100), (NO_READING, 23 + 20 + 20 + 15, 1, 0, 0));
+        // and so does 16
+        let double = thread(1, &[statement(1, 1, &[2, 0, 18, 16, 128, 0, 0, 0, 16, 128, 0, 0, 0]), halt()]);
+        let sheet = [opening(0, 0), skip(1, 1), skip(1, 1), double].concat();
+        assert_eq!(numbers(&sheet, 100), (OFF_THE_SCALE, 23 + 20 + 20 + 15, 1, 0, 0));
         // a thread that is passed over has nothing worked out
         let sheet = [opening(0, 0), skip(1, 1), divide(5)].concat();
         assert_eq!(numbers(&sheet, 100), (NO_READING, 23 + 20 + 15, 2, 0, 0));
@@ -1691,7 +1972,7 @@ mod tests {
         let first = RunState::first(&program, &[]);
         let is = |state: &RunState, thread, tick| match step(&program, state, thread, tick) {
             Step::NotAnEvent => None,
-            Step::NoResult => panic!(),
+            Step::NoResult(_) => panic!(),
             Step::Next(next) => Some(next),
         };
         for tick in 0..6 {

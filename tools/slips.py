@@ -215,30 +215,31 @@ slip("rounding down", "division rounds down",
 slip("rounding up", "division rounds up",
      ("Operator::Divide => left / right,", "Operator::Divide => left / right + i64::from(left % right != 0 && (left < 0) == (right < 0)),"))
 slip("rounding by the dividend", "division leaves no negative remainder", ("Operator::Divide => left / right,", "Operator::Divide => left.div_euclid(right),"))
-slip("wrapping", "a result outside the 32-bit values wraps", ("    i32::try_from(result).ok()\n", "    Some(result as i32)\n"))
+IN_RANGE = "    i32::try_from(result).map_err(|_| OFF_THE_SCALE)\n"
+slip("wrapping", "a result outside the 32-bit values wraps", (IN_RANGE, "    Ok(result as i32)\n"))
 slip("saturating", "a result outside the 32-bit values stays at the end",
-     ("    i32::try_from(result).ok()\n", "    Some(result.clamp(i64::from(i32::MIN), i64::from(i32::MAX)) as i32)\n"))
-slip("lowest value left out", "the lowest value counts as outside", ("    i32::try_from(result).ok()\n", "    i32::try_from(result).ok().filter(|&value| value != i32::MIN)\n"))
-slip("highest value left out", "the highest value counts as outside", ("    i32::try_from(result).ok()\n", "    i32::try_from(result).ok().filter(|&value| value != i32::MAX)\n"))
+     (IN_RANGE, "    Ok(result.clamp(i64::from(i32::MIN), i64::from(i32::MAX)) as i32)\n"))
+slip("lowest value left out", "the lowest value counts as outside", (IN_RANGE, "    i32::try_from(result).ok().filter(|&value| value != i32::MIN).ok_or(OFF_THE_SCALE)\n"))
+slip("highest value left out", "the highest value counts as outside", (IN_RANGE, "    i32::try_from(result).ok().filter(|&value| value != i32::MAX).ok_or(OFF_THE_SCALE)\n"))
 slip("lowest by -1", "the lowest value divided by -1 is the lowest value",
      ("Operator::Divide => left / right,", "Operator::Divide => i64::from((left as i32).wrapping_div(right as i32)),"))
 slip("divisor 0 at the ends", "a divisor's interval is looked at only at its ends",
      ("right.low <= 0 && 0 <= right.high", "(right.low == 0 || right.high == 0)"))
+OPERANDS = "            let left = interval_of(left, registers)?;\n            let right = interval_of(right, registers)?;\n            if *operator"
 slip("difference of a register", "a register less itself is 0",
-     ("            let left = interval_of(left, registers)?;\n            let right = interval_of(right, registers)?;\n            if *operator",
-      "            if let (Operator::Minus, Arithmetic::Register(a), Arithmetic::Register(b)) = (operator, &**left, &**right) {\n                if a == b {\n                    return Some(Interval::ZERO);\n                }\n            }\n"
-      "            let left = interval_of(left, registers)?;\n            let right = interval_of(right, registers)?;\n            if *operator"))
+     (OPERANDS,
+      "            if let (Operator::Minus, Arithmetic::Register(a), Arithmetic::Register(b)) = (operator, &**left, &**right) {\n                if a == b {\n                    return Ok(Interval::ZERO);\n                }\n            }\n" + OPERANDS))
 slip("only the whole in range", "only the whole expression's result is held to the 32-bit values",
      ("        Arithmetic::Operation(operator, left, right) => {\n            let left = interval_of(left, registers)?;",
-      "        Arithmetic::Operation(..) if true => {\n            let (low, high) = wide(expression, registers)?;\n            Some(Interval { low: i32::try_from(low).ok()?, high: i32::try_from(high).ok()? })\n        }\n"
+      "        Arithmetic::Operation(..) if true => {\n            let (low, high) = wide(expression, registers)?;\n            match (i32::try_from(low), i32::try_from(high)) {\n                (Ok(low), Ok(high)) => Ok(Interval { low, high }),\n                _ => Err(OFF_THE_SCALE),\n            }\n        }\n"
       "        Arithmetic::Operation(operator, left, right) => {\n            let left = interval_of(left, registers)?;"),
      ("/// \"10 is given in every part of a condition with the registers as they stand\n",
-      "fn wide(expression: &Arithmetic, registers: &Registers) -> Option<(i128, i128)> {\n    let Arithmetic::Operation(operator, left, right) = expression else {\n"
+      "fn wide(expression: &Arithmetic, registers: &Registers) -> Result<(i128, i128), Fault> {\n    let Arithmetic::Operation(operator, left, right) = expression else {\n"
       "        return interval_of(expression, registers).map(|range| (i128::from(range.low), i128::from(range.high)));\n    };\n"
-      "    let (left, right) = (wide(left, registers)?, wide(right, registers)?);\n    if *operator == Operator::Divide && right.0 <= 0 && 0 <= right.1 {\n        return None;\n    }\n"
+      "    let (left, right) = (wide(left, registers)?, wide(right, registers)?);\n    if *operator == Operator::Divide && right.0 <= 0 && 0 <= right.1 {\n        return Err(NO_READING);\n    }\n"
       "    let ends = [(left.0, right.0), (left.0, right.1), (left.1, right.0), (left.1, right.1)].map(|(a, b)| match operator {\n"
       "        Operator::Plus => a + b,\n        Operator::Minus => a - b,\n        Operator::Times => a.saturating_mul(b),\n        Operator::Divide => a / b,\n    });\n"
-      "    Some((*ends.iter().min()?, *ends.iter().max()?))\n}\n\n/// \"10 is given in every part of a condition with the registers as they stand\n"))
+      "    Ok((*ends.iter().min().unwrap(), *ends.iter().max().unwrap()))\n}\n\n/// \"10 is given in every part of a condition with the registers as they stand\n"))
 LOW = "ends[0].min(ends[1]).min(ends[2]).min(ends[3])"
 HIGH = "ends[0].max(ends[1]).max(ends[2]).max(ends[3])"
 for corner, words in enumerate(["both lows", "the left low with the right high", "the left high with the right low", "both highs"]):
@@ -247,19 +248,88 @@ for corner, words in enumerate(["both lows", "the left low with the right high",
     slip(f"greatest without corner {corner}", f"the greatest leaves out {words}", (HIGH, "ends[{}].max(ends[{}]).max(ends[{}])".format(*others)))
 slip("greatest is the least", "the greatest is taken as the least over the ends", (HIGH, LOW))
 
+# ---- zero or size: which of the two, and in which order
+
+TEN, SIXTEEN = "const NO_READING: u8 = 10;", "const OFF_THE_SCALE: u8 = 16;"
+LEFT, RIGHT = "            let left = interval_of(left, registers)?;\n", "            let right = interval_of(right, registers)?;\n"
+ZERO = "            if *operator == Operator::Divide && right.low <= 0 && 0 <= right.high {\n                return Err(NO_READING);\n            }\n"
+CORNERS = ("            let ends = [\n                apply(*operator, left.low, right.low)?,\n                apply(*operator, left.low, right.high)?,\n"
+           "                apply(*operator, left.high, right.low)?,\n                apply(*operator, left.high, right.high)?,\n            ];\n")
+NO_ENDS = ((f"            let low = {LOW};\n", ""), (f"            let high = {HIGH};\n", ""))
+# least and greatest as 64-bit numbers
+WIDE = ("            let wide = |a: i32, b: i32| {\n                let (a, b) = (i64::from(a), i64::from(b));\n                match operator {\n"
+        "                    Operator::Plus => a + b,\n                    Operator::Minus => a - b,\n                    Operator::Times => a * b,\n                    Operator::Divide => a / b,\n                }\n            };\n"
+        "            let ends = [wide(left.low, right.low), wide(left.low, right.high), wide(left.high, right.low), wide(left.high, right.high)];\n"
+        f"            let (low, high) = ({LOW}, {HIGH});\n")
+slip("both faults 10", "a result off the 32-bit values is 10", (SIXTEEN, "const OFF_THE_SCALE: u8 = 10;"))
+slip("both faults 16", "a divisor that may be 0 is 16", (TEN, "const NO_READING: u8 = 16;"))
+slip("faults exchanged", "a divisor that may be 0 is 16, a result off the 32-bit values 10",
+     (TEN, "const NO_READING: u8 = 16;"), (SIXTEEN, "const OFF_THE_SCALE: u8 = 10;"))
+slip("off the scale 17", "a result off the 32-bit values is 17", (SIXTEEN, "const OFF_THE_SCALE: u8 = 17;"))
+for operator, word in (("Plus", "sum"), ("Minus", "difference"), ("Times", "product"), ("Divide", "quotient")):
+    slip(f"{word} off the scale is 10", f"a {word} off the 32-bit values is 10",
+         (IN_RANGE, f"    i32::try_from(result).map_err(|_| if operator == Operator::{operator} {{ NO_READING }} else {{ OFF_THE_SCALE }})\n"))
+    slip(f"{word} not held", f"a {word} off the 32-bit values stays at the end",
+         (IN_RANGE, f"    if operator == Operator::{operator} {{\n        return Ok(result.clamp(i64::from(i32::MIN), i64::from(i32::MAX)) as i32);\n    }}\n" + IN_RANGE))
+slip("right operand first", "the right operand speaks before the left", (LEFT + RIGHT, "            let (right, left) = (interval_of(right, registers)?, interval_of(left, registers)?);\n"))
+slip("zero before the left operand", "a divisor that may be 0 is 10 before the left operand speaks",
+     (LEFT + RIGHT, "            if let (Operator::Divide, Ok(Interval { low: i32::MIN..=0, high: 0..=i32::MAX })) = (operator, interval_of(right, registers)) {\n                return Err(NO_READING);\n            }\n" + LEFT + RIGHT))
+slip("10 before 16 in an expression", "where both operands have a fault, 10 is passed up before 16",
+     (LEFT + RIGHT, "            if let (Err(a), Err(b)) = (interval_of(left, registers), interval_of(right, registers)) {\n                return Err(a.min(b));\n            }\n" + LEFT + RIGHT))
+slip("16 before 10 in an expression", "where both operands have a fault, 16 is passed up before 10",
+     (LEFT + RIGHT, "            if let (Err(a), Err(b)) = (interval_of(left, registers), interval_of(right, registers)) {\n                return Err(a.max(b));\n            }\n" + LEFT + RIGHT))
+slip("size before zero", "a divide's ends are held to the 32-bit values before its divisor is looked at",
+     (ZERO, "            let corners = [(left.low, right.low), (left.low, right.high), (left.high, right.low), (left.high, right.high)];\n"
+      "            if *operator == Operator::Divide && corners.iter().any(|&(a, b)| apply(*operator, a, b) == Err(OFF_THE_SCALE)) {\n                return Err(OFF_THE_SCALE);\n            }\n" + ZERO))
+slip("size before zero anywhere", "the lowest value by -1 is 16 wherever the intervals hold them, before zero",
+     (ZERO, "            if *operator == Operator::Divide && left.low == i32::MIN && right.low <= -1 && -1 <= right.high {\n                return Err(OFF_THE_SCALE);\n            }\n" + ZERO))
+slip("divisor 0 strictly inside", "a divisor that ends at 0 is looked at end by end, where -1 may come first", ("right.low <= 0 && 0 <= right.high {", "right.low < 0 && 0 < right.high {"))
+slip("operand's fault is the divide's", "a fault of a divide's operands is 10",
+     (LEFT + RIGHT, "            let own = |fault| if *operator == Operator::Divide { NO_READING } else { fault };\n"
+      "            let left = interval_of(left, registers).map_err(own)?;\n            let right = interval_of(right, registers).map_err(own)?;\n"))
+slip("operand's fault is the sum's", "a fault of the operands of +, - and times is 16",
+     (LEFT + RIGHT, "            let own = |fault| if *operator != Operator::Divide { OFF_THE_SCALE } else { fault };\n"
+      "            let left = interval_of(left, registers).map_err(own)?;\n            let right = interval_of(right, registers).map_err(own)?;\n"))
+slip("only the low end held", "only a result's low end is held to the 32-bit values",
+     (CORNERS, WIDE + "            let Ok(low) = i32::try_from(low) else { return Err(OFF_THE_SCALE) };\n            let high = high.min(i64::from(i32::MAX)) as i32;\n"), *NO_ENDS)
+slip("only the high end held", "only a result's high end is held to the 32-bit values",
+     (CORNERS, WIDE + "            let Ok(high) = i32::try_from(high) else { return Err(OFF_THE_SCALE) };\n            let low = low.max(i64::from(i32::MIN)) as i32;\n"), *NO_ENDS)
+
 # ---- conditions
 
 # a part without a reading may be anything
-ANYTHING = ("    (interval_of(left, registers).expect(reading), interval_of(right, registers).expect(reading))",
-            "    let (_, anything) = (reading, Interval { low: i32::MIN, high: i32::MAX });\n"
+ANYTHING = ("    (interval_of(left, registers).expect(kept), interval_of(right, registers).expect(kept))",
+            "    let (_, anything) = (kept, Interval { low: i32::MIN, high: i32::MAX });\n"
             "    (interval_of(left, registers).unwrap_or(anything), interval_of(right, registers).unwrap_or(anything))")
-slip("divisor after narrowing", "10 is looked for on the right of and after narrowing by the left",
-     ("has_reading(left, registers) && has_reading(right, registers)",
-      "{\n            let mut narrowed = *registers;\n            has_reading(left, registers) && (!narrow(left, true, &mut narrowed) || has_reading(right, &narrowed))\n        }"), ANYTHING)
-slip("right of and not looked at", "10 is looked for on the left of and only",
-     ("has_reading(left, registers) && has_reading(right, registers)", "has_reading(left, registers) && (has_reading(right, registers) || true)"), ANYTHING)
-slip("right side not looked at", "10 is looked for on the left of a comparison only",
-     ("interval_of(left, registers).is_some() && interval_of(right, registers).is_some()", "interval_of(left, registers).is_some()"), ANYTHING)
+BOTH_PARTS = "            reading(left, registers)?;\n            reading(right, registers)\n"
+BOTH_SIDES = "            interval_of(left, registers)?;\n            interval_of(right, registers)?;\n            Ok(())\n"
+for name, number, code in (("divisor", 10, "NO_READING"), ("size", 16, "OFF_THE_SCALE")):
+    slip(f"{name} after narrowing", f"{number} is looked for on the right of and after narrowing by the left",
+         (BOTH_PARTS,
+          "            reading(left, registers)?;\n            let mut narrowed = *registers;\n            match reading(right, registers) {\n"
+          f"                Err({code}) if narrow(left, true, &mut narrowed) => reading(right, &narrowed),\n                Err({code}) => Ok(()),\n                other => other,\n            }}\n"), ANYTHING)
+slip("left of and not looked at", "10 and 16 are looked for on the right of and only", (BOTH_PARTS, "            reading(right, registers)\n"), ANYTHING)
+slip("right of and not looked at", "10 and 16 are looked for on the left of and only", (BOTH_PARTS, "            reading(left, registers)\n"), ANYTHING)
+slip("left side not looked at", "10 and 16 are looked for on the right of a comparison only",
+     (BOTH_SIDES, "            interval_of(right, registers)?;\n            Ok(())\n"), ANYTHING)
+slip("right side not looked at", "10 and 16 are looked for on the left of a comparison only",
+     (BOTH_SIDES, "            interval_of(left, registers)?;\n            Ok(())\n"), ANYTHING)
+slip("negation not looked at", "10 and 16 are not looked for under not",
+     ("        Condition::Not(operand) => reading(operand, registers),\n", "        Condition::Not(_) => Ok(()),\n"), ANYTHING)
+slip("right part first", "the right part of and speaks before the left",
+     (BOTH_PARTS, "            reading(right, registers)?;\n            reading(left, registers)\n"))
+slip("right side first", "the right side of a comparison speaks before the left",
+     (BOTH_SIDES, "            interval_of(right, registers)?;\n            interval_of(left, registers)?;\n            Ok(())\n"))
+for word, choice, other in (("10 before 16", "min", "16"), ("16 before 10", "max", "10")):
+    slip(f"{word} in an and", f"where both parts of and have a fault, {word.split()[0]} is passed up before {other}",
+         (BOTH_PARTS, f"            if let (Err(a), Err(b)) = (reading(left, registers), reading(right, registers)) {{\n                return Err(a.{choice}(b));\n            }}\n" + BOTH_PARTS))
+    slip(f"{word} in a comparison", f"where both sides of a comparison have a fault, {word.split()[0]} is passed up before {other}",
+         (BOTH_SIDES, f"            if let (Err(a), Err(b)) = (interval_of(left, registers), interval_of(right, registers)) {{\n                return Err(a.{choice}(b));\n            }}\n" + BOTH_SIDES))
+IF_FAULT = "            reading(condition, &state.threads[thread].registers).map_err(at_fault)?;\n"
+ASSIGN_FAULT = "                interval_of(value, &state.threads[thread].registers).map_err(at_fault)?\n"
+for word, text in (("an if", IF_FAULT), ("an assignment", ASSIGN_FAULT)):
+    for code, what in (("NO_READING", "10"), ("OFF_THE_SCALE", "16")):
+        slip(f"{word}'s fault is {what}", f"every fault of {word} is {what}", (text, text.replace("map_err(at_fault)", f"map_err(|_| at_fault({code}))")))
 slip("right of and first", "yes: and narrows by the right, then by the left",
      ("if yes => narrow(left, true, registers) && narrow(right, true, registers),", "if yes => narrow(right, true, registers) && narrow(left, true, registers),"))
 slip("and without chaining", "yes: each side of and narrows the registers before it, and the results are met",
@@ -420,7 +490,26 @@ slip("single tick passed over", "an event of a single tick is passed over", ("  
 slip("thread not passed over", "an event may begin after M", ("        if from > bound {\n            continue;\n        }\n", ""))
 slip("passed over worked out", "a thread that is passed over has its arithmetic worked out",
      ("        if from > bound {\n            continue;",
-      "        if from > bound {\n            let registers = &state.threads[thread].registers;\n            let reads = match &statement.action {\n                Action::Assign { value, .. } => interval_of(value, registers).is_some(),\n                Action::If { condition, .. } => has_reading(condition, registers),\n                _ => true,\n            };\n            if !reads {\n                return Err(statement.place);\n            }\n            continue;"))
+      "        if from > bound {\n            let registers = &state.threads[thread].registers;\n            let reads = match &statement.action {\n                Action::Assign { value, .. } => interval_of(value, registers).map(drop),\n                Action::If { condition, .. } => reading(condition, registers),\n                _ => Ok(()),\n            };\n            if let Err(number) = reads {\n                return refuse(number, statement.place);\n            }\n            continue;"))
+FAULT_LOOP = "        if let Err(Refusal { number, place }) = push_successors(program, &state, bound, &mut stack) {\n"
+PUSH = "fn push_successors(program: &Program, state: &State, bound: u64, stack: &mut Vec<State>) -> Result<(), Refusal> {\n"
+# the fault of one thread, if it has an event and a fault
+FAULTS_OF_THREADS = (PUSH, PUSH.replace("push_successors", "faults_of").replace("stack: &mut Vec<State>) -> Result<(), Refusal>", "only: usize) -> Result<(), Refusal>")
+                     + "    let latest_low = state.window(program).low;\n    let statement = state.statement(program, only);\n    let own = &state.threads[only];\n"
+                     "    if latest_low.max(own.clock.low + statement.least) > bound {\n        return Ok(());\n    }\n    let at_fault = |number| Refusal { number, place: statement.place };\n"
+                     "    match &statement.action {\n        Action::Assign { value, .. } => interval_of(value, &own.registers).map(drop).map_err(at_fault),\n"
+                     "        Action::If { condition, .. } => reading(condition, &own.registers).map_err(at_fault),\n        _ => Ok(()),\n    }\n}\n\n" + PUSH)
+for word, what, choice in (
+        ("last thread's fault", "the last thread with a fault decides", ".last()"),
+        ("10 before 16 between threads", "a thread's 10 is given before an earlier thread's 16", ".min_by_key(|fault| fault.number)"),
+        ("16 before 10 between threads", "a thread's 16 is given before an earlier thread's 10", ".min_by_key(|fault| std::cmp::Reverse(fault.number))")):
+    slip(word, what, FAULTS_OF_THREADS,
+         (FAULT_LOOP, f"        let chosen = (0..program.threads.len()).filter_map(|thread| faults_of(program, &state, bound, thread).err()){choice};\n"
+          "        if let Some(Refusal { number, place }) = chosen {\n            return refused(number, place, steps);\n        }\n" + FAULT_LOOP))
+slip("place of the first thread", "a fault's place is the first thread's statement",
+     ("        let at_fault = |number| Refusal { number, place: statement.place };\n", "        let at_fault = |number| Refusal { number, place: state.statement(program, 0).place };\n"))
+slip("place of the next statement", "a fault's place is where the next statement stands",
+     ("        let at_fault = |number| Refusal { number, place: statement.place };\n", "        let at_fault = |number| Refusal { number, place: program.threads[thread].statements[state.threads[thread].statement + 1].place };\n"))
 slip("threads in reverse", "the highest thread number comes first", ("    for thread in 0..program.threads.len() {\n        let statement = state.statement(program, thread);", "    for thread in (0..program.threads.len()).rev() {\n        let statement = state.statement(program, thread);"))
 slip("earliest thread only", "only the thread with the earliest low goes next",
      ("        if from > bound {\n            continue;",
@@ -437,10 +526,19 @@ slip("new states underneath", "new states go under those held", ("        stack[
 slip("12 before 11", "past the limit is tried before stuck",
      ("        if state.stuck(program) {\n            return refused(STUCK, 0, steps);\n        }\n        if bound > program.limit {\n            return refused(PAST_THE_LIMIT, 0, steps);\n        }\n",
       "        if bound > program.limit {\n            return refused(PAST_THE_LIMIT, 0, steps);\n        }\n        if state.stuck(program) {\n            return refused(STUCK, 0, steps);\n        }\n"))
-slip("14 before 10", "out of room is given before a statement without a reading",
-     ("            return refused(NO_READING, place, steps);", "            if stack.len() > slots {\n                return refused(OUT_OF_ROOM, 0, steps);\n            }\n            return refused(NO_READING, place, steps);"))
-slip("10 before 12", "a statement without a reading is given before past the limit",
-     ("        if bound > program.limit {\n", "        if let (true, Err(place)) = (bound > program.limit, push_successors(program, &state, bound, &mut Vec::new())) {\n            return refused(NO_READING, place, steps);\n        }\n        if bound > program.limit {\n"))
+FAULT = "            return refused(number, place, steps);\n"
+LIMIT = "        if bound > program.limit {\n"
+BUDGET = "        if steps == program.budget {\n"
+WHAT = {10: "a divisor that may be 0", 16: "a result off the 32-bit values"}
+for number, what in WHAT.items():
+    given = f"Err(Refusal {{ number: number @ {number}, place }})"
+    slip(f"14 before {number}", f"out of room is given before {what}",
+         (FAULT, f"            if number == {number} && stack.len() > slots {{\n                return refused(OUT_OF_ROOM, 0, steps);\n            }}\n" + FAULT))
+    slip(f"{number} before 12", f"{what} is given before past the limit",
+         (LIMIT, f"        if let (true, {given}) = (bound > program.limit, push_successors(program, &state, bound, &mut Vec::new())) {{\n" + FAULT + "        }\n" + LIMIT))
+    slip(f"13 after {number}", f"{what} is tried before out of steps",
+         (BUDGET, f"        let top = stack[stack.len() - 1];\n        if let (true, Some(bound)) = (steps == program.budget, top.bound(program)) {{\n"
+          f"            if bound <= program.limit {{\n                if let {given} = push_successors(program, &top, bound, &mut Vec::new()) {{\n    " + FAULT + "                }\n            }\n        }\n" + BUDGET))
 slip("14 before 12", "out of room is given before past the limit",
      ("        if bound > program.limit {\n", "        let mut made = Vec::new();\n        if bound > program.limit && push_successors(program, &state, bound, &mut made).is_ok() && stack.len() + made.len() > slots {\n            return refused(OUT_OF_ROOM, 0, steps);\n        }\n        if bound > program.limit {\n"))
 slip("13 after the state", "out of steps is tried after a final state is counted",
@@ -475,7 +573,11 @@ slip("stuck if one waits", "11 where some live thread waits",
       "            .any(|thread| waits(&self.statement(program, thread).action, thread, &self.owners))\n    }\n\n    /// The greatest clock low"))
 slip("never stuck", "11 is never given", ("        if state.stuck(program) {\n            return refused(STUCK, 0, steps);", "        if false {\n            return refused(STUCK, 0, steps);"))
 slip("refused state not counted", "11 does not count the refused state", ("return refused(STUCK, 0, steps);", "return refused(STUCK, 0, steps - 1);"))
-slip("10 without a place", "10's place is 0", ("return refused(NO_READING, place, steps);", "return refused(NO_READING, place - place, steps);"))
+for number in WHAT:
+    slip(f"{number} without a place", f"{number}'s place is 0", (FAULT, FAULT.replace("place", f"if number == {number} {{ 0 }} else {{ place }}")))
+    slip(f"{number} not counted", f"{number} does not count the refused state", (FAULT, FAULT.replace("steps", f"if number == {number} {{ steps - 1 }} else {{ steps }}")))
+slip("16 with the window so far", "16 gives the window found before it",
+     (FAULT, "            let found = window.filter(|_| number == OFF_THE_SCALE).unwrap_or(Window { low: 0, high: 0 });\n            return Answer { low: found.low, high: found.high, ..refused(number, place, steps) };\n"))
 slip("low of the earliest thread", "a final state's low is the least clock low",
      ("            let found = state.window(program);", "            let mut found = state.window(program);\n            found.low = state.threads[..program.threads.len()].iter().map(|thread| thread.clock.low).min().unwrap_or(0);"))
 slip("high of the earliest thread", "a final state's high is the least clock high",
@@ -494,7 +596,14 @@ slip("15 without the window", "15 gives no window", ("place: 0, steps, low, high
 
 # ---- the same rules in other words
 
-same("divisor 0 strictly inside", "an end that is 0 has no quotient, which is 10 as well", ("right.low <= 0 && 0 <= right.high", "right.low < 0 && 0 < right.high"))
+same("ends held, not corners", "the least and the greatest leave the 32-bit values where one of the four does",
+     (CORNERS, WIDE + "            let (Ok(low), Ok(high)) = (i32::try_from(low), i32::try_from(high)) else { return Err(OFF_THE_SCALE) };\n"), *NO_ENDS)
+same("10 and 16 before 11", "where every live thread waits for a lock, none has arithmetic to work out",
+     ("        if state.stuck(program) {\n            return refused(STUCK, 0, steps);",
+      "        if let (true, Err(Refusal { number, place })) = (state.stuck(program), push_successors(program, &state, bound, &mut Vec::new())) {\n" + FAULT + "        }\n"
+      "        if state.stuck(program) {\n            return refused(STUCK, 0, steps);"))
+same("a divisor of 0 alone", "a divisor of 0..0 has no quotient at its ends, which is 10 as well",
+     ("right.low <= 0 && 0 <= right.high {", "(right.low < 0 && 0 <= right.high || right.low <= 0 && 0 < right.high) {"))
 same("a lowered register is not empty", "the tests before it leave a value wherever a high is lowered",
      ("        register.high = register.high.min(bound);\n        return register.low <= register.high;", "        register.high = register.high.min(bound);"))
 same("less worked out again", "lowering the left's high leaves its low, the only end that the right's rule takes",
@@ -527,6 +636,22 @@ reach("the right of an and is empty after its left, not by itself",
        "            assert!(!alone || !left || right);\n            right\n        }"))
 reach("a register is narrowed to nothing",
       ("        register.low = register.low.max(bound);\n", "        register.low = register.low.max(bound);\n        assert!(register.low <= register.high);\n"))
+
+DIFFERENT = "matches!(({}, {}), (Err(a), Err(b)) if a != b)"
+reach("both operands of an operator have a fault, not the same",
+      (LEFT + RIGHT, "            assert!(!" + DIFFERENT.format("interval_of(left, registers)", "interval_of(right, registers)") + ");\n" + LEFT + RIGHT))
+reach("both sides of a comparison have a fault, not the same",
+      (BOTH_SIDES, "            assert!(!" + DIFFERENT.format("interval_of(left, registers)", "interval_of(right, registers)") + ");\n" + BOTH_SIDES))
+reach("both parts of an and have a fault, not the same",
+      (BOTH_PARTS, "            assert!(!" + DIFFERENT.format("reading(left, registers)", "reading(right, registers)") + ");\n" + BOTH_PARTS))
+reach("a divide whose divisor may be 0 and whose left operand is off the scale",
+      (LEFT + RIGHT, "            if *operator == Operator::Divide && interval_of(left, registers) == Err(OFF_THE_SCALE) {\n"
+       "                assert!(!matches!(interval_of(right, registers), Ok(right) if right.low <= 0 && 0 <= right.high));\n            }\n" + LEFT + RIGHT))
+reach("a divide of the lowest value by an interval that holds -1 and 0",
+      (ZERO, "            assert!(!(*operator == Operator::Divide && left.low == i32::MIN && right.low <= -1 && 0 <= right.high));\n" + ZERO))
+reach("two threads with different faults in one turn", FAULTS_OF_THREADS,
+      (FAULT_LOOP, "        let faults: Vec<u8> = (0..program.threads.len()).filter_map(|thread| faults_of(program, &state, bound, thread).err()).map(|fault| fault.number).collect();\n"
+       "        assert!(faults.iter().all(|fault| *fault == faults[0]));\n" + FAULT_LOOP))
 
 
 def edited(text, name, edits):

@@ -102,7 +102,25 @@ WRONG_TEXTS = (
     ("var 0..0\n" * 8, "8 111", "line 13: var 0..0\n", "variable x8"),
     ("thread\nhalt\n" * 5, "8 82", "line 14: thread\n", "the start of thread 4"),
     ("thread\nreg 0..0\n1..1 r0 := " + "(" * 12 + "0" + " + 0)" * 12 + "\nhalt", "6 49", "line 8: ", "assign"),
-    ("thread\nreg -1..1\n1..1 r0 := 10 / r0\nhalt", "10 49", "line 8: 1..1 r0 := 10 / r0\n", "took 1 state\n"),
+    (
+        "thread\nreg -1..1\n1..1 r0 := 10 / r0\nhalt",
+        "10 49",
+        "refused, 10 no reading: a divisor may be 0 (",
+        "line 8: 1..1 r0 := 10 / r0\n",
+        "assign",
+        "took 1 state\n",
+    ),
+    ("thread\nreg 1..2\n1..1 r0 := r0 * 2000000000\nhalt", "16 49", "line 8: 1..1 r0 := r0 * 2000000000\n", "1 state\n"),
+    (
+        "thread\nreg 1..2\n1..1 skip\n1..1 if -2147483648 - r0 < 0 goto 0\nhalt",
+        "16 57",
+        "refused, 16 off the scale: a result may leave the 32-bit values (",
+        "line 9: 1..1 if -2147483648 - r0 < 0 goto 0\n",
+        "statement 1 of thread 0, if",
+        "took 2 states\n",
+    ),
+    ("thread\nreg -1..1\n1..1 if (2147483647 + 1) / r0 == 1 / r0 goto 0\nhalt", "16 49", "line 8: ", "if"),
+    ("thread\nreg -1..1\n1..1 if 1 / r0 == (2147483647 + 1) / r0 goto 0\nhalt", "10 49", "line 8: ", "if"),
     ("thread\n" + "1..1 skip\n" * 64 + "halt", "8 550", "line 71: halt\n", "statement 64 of thread 0, halt"),
 )
 
@@ -169,6 +187,8 @@ def try_search():
     Call("check", "-", given=roomy.encode()).gives(1, "14 0 ", "lends 12,000 numbers, room for 120 states")
     Call("check", "sheets/B-label.txt").gives(1, "the window found is 2..3, the label 3..3", "a label that holds 2..3")
     Call("check", "sheets/E.txt").gives(1, "refused, 11 stuck")
+    Call("check", "sheets/G-zero.txt").gives(1, "refused, 10 no reading", "the probe may have touched nothing")
+    Call("check", "sheets/G-lowest.txt").gives(1, "refused, 16 off the scale", "too large for the board")
 
 
 def try_usage(folder):

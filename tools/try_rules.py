@@ -115,7 +115,7 @@ def main(arguments):
     for index in differ:
         sheet, length, five = sheets[index]
         print(f"differs: length {length}, oracle {' '.join(map(str, five))}, sheet {sheet.hex().upper()}")
-    of = [sum(five[0] == refusal for _, _, five in sheets) for refusal in range(16)]
+    of = [sum(five[0] == refusal for _, _, five in sheets) for refusal in range(1 + max(five[0] for _, _, five in sheets))]
     print("by refusal:", " ".join(f"{refusal}:{count}" for refusal, count in enumerate(of)))
     print(f"{len(sheets)} sheets compared, {len(differ)} differ, {whole - len(sheets)} left out")
     sys.exit(bool(differ))

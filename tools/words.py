@@ -29,8 +29,8 @@ REFUSALS = {
     9: ("too long", "more than 16,384 bytes", "shorten the sheet"),
     10: (
         "no reading",
-        "a divisor may be 0, or a result may leave the 32-bit values",
-        "narrow the ranges, or test first",
+        "a divisor may be 0 (the probe may have touched nothing)",
+        "narrow the divisor's range, or put the divisor in a register and test that first, with < in an if of its own",
     ),
     11: (
         "stuck",
@@ -45,7 +45,16 @@ REFUSALS = {
         "make the routine smaller, or call the library with a larger buffer",
     ),
     15: ("label broken", "the window is not inside the label", "print the window on the label"),
+    16: (
+        "off the scale",
+        "a result may leave the 32-bit values (the number may be too large for the board)",
+        "narrow the ranges, or test the registers first, with < in an if of its own",
+    ),
 }
+
+# the refusals that name a field, and those of the search
+PLACED = (1, 2, 3, 4, 5, 6, 7, 8, 10, 16)
+FIRST_OF_SEARCH = 10
 
 CODES = ("halt", "skip", "assign", "if", "store", "load", "unlock", "lock")
 
@@ -203,9 +212,9 @@ def explain(answer, sheet, text=(), places=()):
         return [f"accepted: {runs}; the search took {number(answer.steps, 'state')}"]
     word, when, remedy = REFUSALS[answer.refusal]
     lines = []
-    if answer.refusal <= 10 and answer.refusal != 9:
+    if answer.refusal in PLACED:
         lines += text_lines(answer, text, places) + place_lines(answer, sheet)
-    if answer.refusal >= 10:
+    if answer.refusal >= FIRST_OF_SEARCH:
         lines += search_lines(answer, sheet)
     lines.append(f"what to do: {remedy}")
     return [f"refused, {answer.refusal} {word}: {when}"] + ["  " + line for line in lines]

@@ -93,7 +93,8 @@ SHEETS = [
         ROOM,
         (0, 0, 3, 2, 2),
     ),
-    ("G: lowest by -1", text("thread; reg -1..-1; 1..1 r0 := -2147483648 / r0; halt"), ROOM, (10, 38, 1, 0, 0)),
+    # 10 in 01; 02, ticket 1: "Case G's lowest value by −1 changes its number", to 16.
+    ("G: lowest by -1", text("thread; reg -1..-1; 1..1 r0 := -2147483648 / r0; halt"), ROOM, (16, 38, 1, 0, 0)),
     # Both branches: the test, halt at tick 1, the skip, halt at tick 3.
     (
         "H: equal",

@@ -14,8 +14,8 @@ extern "C" {
  *
  * Five numbers go to answer[0] to answer[4], in this order:
  *
- *     refusal   0: the label may stay; 1 to 15: why not
- *     place     the offset in the sheet that refusals 1 to 10 name, else 0
+ *     refusal   0: the label may stay; 1 to 16: why not
+ *     place     the offset in the sheet that refusals 1 to 10 and 16 name, else 0
  *     steps     the steps that the search took, 0 if the sheet does not read
  *     low       for refusals 0 and 15 the window's low end, else 0
  *     high      likewise its high end

@@ -7,6 +7,8 @@ use interval::Span;
 use interval::Val;
 use refusal::Refusal;
 
+mod order;
+
 // ---- printing
 
 fn print(text: &[u8]) {
@@ -535,10 +537,12 @@ fn main() {
     sums_and_products();
     extremes();
     nested();
+    order::operands();
     simple_conditions();
     comparisons();
     conjunctions();
     faults();
+    order::parts();
     sides();
     leaves();
     operands();

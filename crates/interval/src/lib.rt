@@ -130,10 +130,10 @@ fn span_within(low: Wide, high: Wide) -> Reading
             let s = Span { low: l, high: h };
             Reading::Is(s)
         } else {
-            Reading::Fault(Refusal::NoReading)
+            Reading::Fault(Refusal::OffScale)
         }
     } else {
-        Reading::Fault(Refusal::NoReading)
+        Reading::Fault(Refusal::OffScale)
     }
 }
 
@@ -193,6 +193,7 @@ fn holds_zero(b: Span) -> bool
     }
 }
 
+// Zero before size: a divisor that may be 0 is told before a quotient that leaves the 32-bit values.
 fn quotient(a: Span, b: Span) -> Reading
     ensures { λ r. ⌜ resultOf r ≡ combine half32 divide (intervalOf a) (intervalOf b) ⌝ }
 {

@@ -1,4 +1,4 @@
-// What the tool says no to, as data: a case for each row of 01's table, in its order.
+// What the tool says no to, as data: a case for each row of 01's table, in its order, then those of 02.
 ghost use mathlib.Core.Path.{_≡_};
 ghost use Rattle.rules.specs.Refusal.{number};
 ghost use Rattle.refusal.specs.Shape.{ruleOf};
@@ -19,9 +19,10 @@ pub enum Refusal {
     OutOfSteps,
     OutOfRoom,
     LabelBroken,
+    OffScale,
 }
 
-// The number that 01 gives a refusal; no refusal has 0.
+// The number that 01 or 02 gives a refusal; no refusal has 0.
 pub fn number_of(r: Refusal) -> u32
     ensures { λ k. ⌜ k ≡ number (ruleOf r) ⌝ }
 {
@@ -41,5 +42,6 @@ pub fn number_of(r: Refusal) -> u32
         Refusal::OutOfSteps => 13,
         Refusal::OutOfRoom => 14,
         Refusal::LabelBroken => 15,
+        Refusal::OffScale => 16,
     }
 }

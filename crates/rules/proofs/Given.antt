@@ -1,12 +1,11 @@
--- Which refusals a search gives, and at which place: 10 at a statement, 11 to 14 at place 0, no other.
-use mathlib.Core.Path.{_≡_, refl, sym, subst}
+-- Which refusals a search gives, and at which place: 10 and 16 at a statement, 11 to 14 at place 0, no other.
 use mathlib.Core.Option.{Option}
 use mathlib.Core.List.{List, [], _∷_, _++_}
 use Prim.Native.Nat.{ℕ, zero, suc, _+_, max}
 use lib.Dec.{leb, ltb}
 use lib.ListN.{length}
 use Rattle.rules.specs.Base.{if_then_else_, all}
-use Rattle.rules.specs.Refusal.{Refusal, noReading, stuck, pastLimit, outOfSteps, outOfRoom, Result, value, fault, onBoth}
+use Rattle.rules.specs.Refusal.{Refusal, noReading, stuck, pastLimit, outOfSteps, outOfRoom, offScale, Result, value, fault, onBoth}
 use Rattle.rules.specs.Constants.{half32}
 use Rattle.rules.specs.Interval.{Interval, Operator, operate, hull, mayDivideByZero, fits, within, combine}
 use Rattle.rules.specs.Program.{Arith, constant, register, operation, Condition, always, never, negation, conjunction, equal, less}
@@ -15,50 +14,54 @@ use Rattle.rules.specs.Expression.{Regs, evaluate, allParts, narrowYes, 
 use Rattle.rules.specs.Search.{State, ThreadState, Live, Next, unread, states, fromValue, branches, effect, Turn, refused, ended, follow, before, events, turnBound, greatestLow, waits, turnOf, turn, liveFrom, Window, Step, stop, goOn, afterTurn, searchStep, End, fails, finds, resume, search}
 use Rattle.rules.proofs.Base.{if-ind}
 
--- arithmetic has one fault
-abbrev pub NoReadingOnly : {A : Type 0} → Result A → Type 0
-NoReadingOnly (value a) = Unit {0}
-NoReadingOnly (fault r) = r ≡ noReading
+-- arithmetic has two faults
+pub data OfArithmetic : Refusal → Type 0 where
+  zero-divisor : OfArithmetic noReading
+  off-the-scale : OfArithmetic offScale
 
-both-no-reading : {A B C : Type 0} (f : A → B → Result C) → ((a : A) (b : B) → NoReadingOnly (f a b)) → (x : Result A) (y : Result B)
-    → NoReadingOnly x → NoReadingOnly y → NoReadingOnly (onBoth f x y)
+abbrev ArithmeticOnly : {A : Type 0} → Result A → Type 0
+ArithmeticOnly (value a) = Unit {0}
+ArithmeticOnly (fault r) = OfArithmetic r
+
+both-arithmetic : {A B C : Type 0} (f : A → B → Result C) → ((a : A) (b : B) → ArithmeticOnly (f a b)) → (x : Result A) (y : Result B)
+    → ArithmeticOnly x → ArithmeticOnly y → ArithmeticOnly (onBoth f x y)
 unfolding onBoth
-both-no-reading f k (fault r) y h l = h
-both-no-reading f k (value a) (fault r) h l = l
-both-no-reading f k (value a) (value b) h l = k a b
+both-arithmetic f k (fault r) y h l = h
+both-arithmetic f k (value a) (fault r) h l = l
+both-arithmetic f k (value a) (value b) h l = k a b
 
-combine-no-reading : (n : ℕ) (o : Operator) (i j : Interval) → NoReadingOnly (combine n o i j)
+combine-arithmetic : (n : ℕ) (o : Operator) (i j : Interval) → ArithmeticOnly (combine n o i j)
 unfolding combine within
-combine-no-reading n o i j =
+combine-arithmetic n o i j =
     let k = hull (operate o) i j in
-    if-ind (mayDivideByZero o j) (fault noReading) (within n k) NoReadingOnly (λ _. refl) (λ _. if-ind (fits n k) (value k) (fault noReading) NoReadingOnly (λ _. tt) (λ _. refl))
+    if-ind (mayDivideByZero o j) (fault noReading) (within n k) ArithmeticOnly (λ _. zero-divisor) (λ _. if-ind (fits n k) (value k) (fault offScale) ArithmeticOnly (λ _. tt) (λ _. off-the-scale))
 
-pub evaluate-no-reading : (a : Arith) (rs : Regs) → NoReadingOnly (evaluate a rs)
+evaluate-arithmetic : (a : Arith) (rs : Regs) → ArithmeticOnly (evaluate a rs)
 unfolding evaluate
-evaluate-no-reading (constant z) rs = tt
-evaluate-no-reading (register r) rs = tt
-evaluate-no-reading (operation o a b) rs =
-    both-no-reading (combine half32 o) (combine-no-reading half32 o) (evaluate a rs) (evaluate b rs) (evaluate-no-reading a rs) (evaluate-no-reading b rs)
+evaluate-arithmetic (constant z) rs = tt
+evaluate-arithmetic (register r) rs = tt
+evaluate-arithmetic (operation o a b) rs =
+    both-arithmetic (combine half32 o) (combine-arithmetic half32 o) (evaluate a rs) (evaluate b rs) (evaluate-arithmetic a rs) (evaluate-arithmetic b rs)
 
-pub parts-no-reading : (c : Condition) (rs : Regs) → NoReadingOnly (allParts c rs)
+parts-arithmetic : (c : Condition) (rs : Regs) → ArithmeticOnly (allParts c rs)
 unfolding allParts
-parts-no-reading always rs = tt
-parts-no-reading never rs = tt
-parts-no-reading (negation c) rs = parts-no-reading c rs
-parts-no-reading (conjunction c d) rs = both-no-reading _ (λ _ _. tt) (allParts c rs) (allParts d rs) (parts-no-reading c rs) (parts-no-reading d rs)
-parts-no-reading (equal a b) rs = both-no-reading _ (λ _ _. tt) (evaluate a rs) (evaluate b rs) (evaluate-no-reading a rs) (evaluate-no-reading b rs)
-parts-no-reading (less a b) rs = both-no-reading _ (λ _ _. tt) (evaluate a rs) (evaluate b rs) (evaluate-no-reading a rs) (evaluate-no-reading b rs)
+parts-arithmetic always rs = tt
+parts-arithmetic never rs = tt
+parts-arithmetic (negation c) rs = parts-arithmetic c rs
+parts-arithmetic (conjunction c d) rs = both-arithmetic _ (λ _ _. tt) (allParts c rs) (allParts d rs) (parts-arithmetic c rs) (parts-arithmetic d rs)
+parts-arithmetic (equal a b) rs = both-arithmetic _ (λ _ _. tt) (evaluate a rs) (evaluate b rs) (evaluate-arithmetic a rs) (evaluate-arithmetic b rs)
+parts-arithmetic (less a b) rs = both-arithmetic _ (λ _ _. tt) (evaluate a rs) (evaluate b rs) (evaluate-arithmetic a rs) (evaluate-arithmetic b rs)
 
--- 10 at a statement; 11 to 14 at place 0; no other
+-- 10 and 16 at a statement; 11 to 14 at place 0; no other
 pub data Given : Refusal → ℕ → Type 0 where
-  unreadable : (p : ℕ) → Given noReading p
+  unreadable : {r : Refusal} → OfArithmetic r → (p : ℕ) → Given r p
   is-stuck : Given stuck 0
   past-limit : Given pastLimit 0
   no-steps : Given outOfSteps 0
   no-room : Given outOfRoom 0
 
 abbrev GivenNext : Next → Type 0
-GivenNext (unread r) = r ≡ noReading
+GivenNext (unread r) = OfArithmetic r
 GivenNext (states xs) = Unit {0}
 
 abbrev GivenTurn : Turn → Type 0
@@ -66,12 +69,12 @@ GivenTurn (refused r p) = Given r p
 GivenTurn (ended a b) = Unit {0}
 GivenTurn (follow xs) = Unit {0}
 
-value-given : {A : Type 0} (f : A → State) (o : Result A) → NoReadingOnly o → GivenNext (fromValue f o)
+value-given : {A : Type 0} (f : A → State) (o : Result A) → ArithmeticOnly o → GivenNext (fromValue f o)
 unfolding fromValue
 value-given f (fault r) h = h
 value-given f (value a) h = tt
 
-branches-given : (f g : Regs → State) (o : Result (Unit {0})) (y n : Option Regs) → NoReadingOnly o → GivenNext (branches f g o y n)
+branches-given : (f g : Regs → State) (o : Result (Unit {0})) (y n : Option Regs) → ArithmeticOnly o → GivenNext (branches f g o y n)
 unfolding branches
 branches-given f g (fault r) y n h = h
 branches-given f g (value u) y n h = tt
@@ -80,8 +83,8 @@ effect-given : (s : State) (t : ℕ) (x : ThreadState) (low high : ℕ) (a : Act
 unfolding effect
 effect-given s t x low high halt = tt
 effect-given s t x low high skip = tt
-effect-given s t x low high (assign r a) = value-given _ (evaluate a (x .regs)) (evaluate-no-reading a (x .regs))
-effect-given s t x low high (branch to c) = branches-given _ _ (allParts c (x .regs)) (narrowYes c (x .regs)) (narrowNo c (x .regs)) (parts-no-reading c (x .regs))
+effect-given s t x low high (assign r a) = value-given _ (evaluate a (x .regs)) (evaluate-arithmetic a (x .regs))
+effect-given s t x low high (branch to c) = branches-given _ _ (allParts c (x .regs)) (narrowYes c (x .regs)) (narrowNo c (x .regs)) (parts-arithmetic c (x .regs))
 effect-given s t x low high (store r v) = tt
 effect-given s t x low high (load r v) = tt
 effect-given s t x low high (unlock l) = tt
@@ -89,7 +92,7 @@ effect-given s t x low high (lock l) = tt
 
 before-given : (p : ℕ) (n : Next) (t : Turn) → GivenNext n → GivenTurn t → GivenTurn (before p n t)
 unfolding before
-before-given p (unread r) t h k = subst (λ (q : Refusal). Given q p) (sym h) (unreadable p)
+before-given p (unread r) t h k = unreadable h p
 before-given p (states xs) (refused r q) h k = k
 before-given p (states xs) (ended a b) h k = tt
 before-given p (states xs) (follow ys) h k = tt

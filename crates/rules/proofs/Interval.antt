@@ -8,7 +8,7 @@ use lib.Dec.{T, T-not, ltb, leb, leb→le, le→leb, ltb→lt, lt→ltb}
 use lib.IntN.{ℤ, pos, negsuc, negℤ}
 use lib.Signed.{mag, leZ, ltZ, _≤ℤ_, ≤ℤ-refl, leZ-yes}
 use Rattle.rules.specs.Base.{if_then_else_}
-use Rattle.rules.specs.Refusal.{Refusal, noReading, Result, value, fault}
+use Rattle.rules.specs.Refusal.{Refusal, noReading, offScale, Result, value, fault}
 use Rattle.rules.specs.Interval.{Interval, _∈_, eqZ, inRange, Operator, plus, minus, times, divide, operate, dividesByZero, calculate, hull, holdsZero, mayDivideByZero, fits, within, combine}
 use Rattle.rules.proofs.Base.{if-ind, and-left, and-right, and-both, not-both, same-test}
 use Rattle.rules.proofs.Order.{≤ℤ-trans, min-left, max-left, min-above, max-below}
@@ -56,7 +56,7 @@ zero-in j y q h =
     and-both (leZ (j .low) (pos 0)) (leZ (pos 0) (j .high)) (≤ℤ-trans (h .low) a .le) (≤ℤ-trans b (h .high) .le)
 
 -- a divisor that is zero lies on an interval that may be zero
-divisor-in : (o : Operator) (j : Interval) (y : ℤ) → y ∈ j → T (dividesByZero o y) → T (mayDivideByZero o j)
+pub divisor-in : (o : Operator) (j : Interval) (y : ℤ) → y ∈ j → T (dividesByZero o y) → T (mayDivideByZero o j)
 unfolding mayDivideByZero dividesByZero
 divisor-in plus j y h q = q
 divisor-in minus j y h q = q
@@ -76,10 +76,10 @@ combine-agrees n o i j x y hx hy =
     let k = hull (operate o) i j in
     if-ind (mayDivideByZero o j) (fault noReading) (within n k) (λ r. Agree r (calculate n o x y)) (λ t. tt) (λ t.
     let zk : z ∈ k = operation-holds o i j t x y hx hy in
-    if-ind (fits n k) (value k) (fault noReading) (λ r. Agree r (calculate n o x y))
-    (λ f. if-ind (dividesByZero o y) (fault noReading) (if inRange n z then value z else fault noReading) (λ r. Agree (value k) r)
+    if-ind (fits n k) (value k) (fault offScale) (λ r. Agree r (calculate n o x y))
+    (λ f. if-ind (dividesByZero o y) (fault noReading) (if inRange n z then value z else fault offScale) (λ r. Agree (value k) r)
     (λ q. not-both (mayDivideByZero o j) t (divisor-in o j y hy q))
-    (λ q. if-ind (inRange n z) (value z) (fault noReading) (λ r. Agree (value k) r)
+    (λ q. if-ind (inRange n z) (value z) (fault offScale) (λ r. Agree (value k) r)
     (λ u. zk)
     (λ u. T-not (inRange n z) u (in-range n k z f zk))))
     (λ f. tt))
@@ -88,9 +88,9 @@ combine-agrees n o i j x y hx hy =
 calculated : (n : ℕ) (o : Operator) (x y z : ℤ) → calculate n o x y ≡ value z → (operate o x y ≡ z) × T (inRange n z)
 unfolding calculate
 calculated n o x y z =
-    if-ind (dividesByZero o y) (fault noReading) (if inRange n (operate o x y) then value (operate o x y) else fault noReading) (λ r. r ≡ value z → (operate o x y ≡ z) × T (inRange n z))
+    if-ind (dividesByZero o y) (fault noReading) (if inRange n (operate o x y) then value (operate o x y) else fault offScale) (λ r. r ≡ value z → (operate o x y ≡ z) × T (inRange n z))
     (λ _ e. absurd (clash e))
-    (λ _. if-ind (inRange n (operate o x y)) (value (operate o x y)) (fault noReading) (λ r. r ≡ value z → (operate o x y ≡ z) × T (inRange n z))
+    (λ _. if-ind (inRange n (operate o x y)) (value (operate o x y)) (fault offScale) (λ r. r ≡ value z → (operate o x y ≡ z) × T (inRange n z))
     (λ t e. let p : operate o x y ≡ z = cc in (p, subst (λ (w : ℤ). T (inRange n w)) p t)) (λ _ e. absurd (clash e)))
   where
     clash : {r : Refusal} {w : ℤ} → fault r ≡ value w → ⊥
@@ -192,8 +192,8 @@ combine-below n o i j i′ j′ hi hj =
     let c = low-point j′ j hj in
     let d = high-point j′ j hj in
     let mk : Part m k = hull-part (operate o) i′ j′ k (v (i′ .low) (j′ .low) a c) (v (i′ .low) (j′ .high) a d) (v (i′ .high) (j′ .low) b c) (v (i′ .high) (j′ .high) b d) in
-    if-ind (fits n k) (value k) (fault noReading) (λ r. Below r (combine n o i′ j′))
+    if-ind (fits n k) (value k) (fault offScale) (λ r. Below r (combine n o i′ j′))
     (λ f. if-ind (mayDivideByZero o j′) (fault noReading) (within n m) (λ r. Below (value k) r)
     (λ u. not-both (mayDivideByZero o j) t (part-divisor o j j′ (hj .inside) u))
-    (λ u. if-ind (fits n m) (value m) (fault noReading) (λ r. Below (value k) r) (λ q. mk) (λ q. T-not (fits n m) q (part-fits n k m mk f))))
+    (λ u. if-ind (fits n m) (value m) (fault offScale) (λ r. Below (value k) r) (λ q. mk) (λ q. T-not (fits n m) q (part-fits n k m mk f))))
     (λ f. tt))

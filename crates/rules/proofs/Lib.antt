@@ -9,6 +9,7 @@ pub mod Tight
 pub mod Refusal
 pub mod Format
 pub mod Expression
+pub mod Faults
 pub mod Narrowing
 pub mod NarrowingSound
 pub mod Event

@@ -12,7 +12,7 @@ use Rattle.rules.specs.Program.{Program}
 use Rattle.rules.specs.Format.{Bytes, Got, bad, got, readSheet}
 use Rattle.rules.specs.Search.{State, Window, unseen, seen, Step, stop, goOn, searchStep, End, fails, finds, resume, search, resumeTaking, takes, start, searchFrom, statesTaken, Answer, five, judge, answerWith, answer}
 use Rattle.rules.proofs.Base.{if-ind, not-both}
-use Rattle.rules.proofs.Given.{Given, unreadable, is-stuck, past-limit, no-steps, no-room, GivenEnd, search-given}
+use Rattle.rules.proofs.Given.{zero-divisor, off-the-scale, Given, unreadable, is-stuck, past-limit, no-steps, no-room, GivenEnd, search-given}
 
 -- ---- steps
 
@@ -73,7 +73,7 @@ pub record SearchedSheet (g : Program) (slots : ℕ) (a : Answer) : Type 0 where
   pub no-early-refusal : (a .refusal ≡ 0 → ⊥) → 10 ≤ a .refusal
   pub window-only : (a .refusal ≡ 0 → ⊥) → (a .refusal ≡ 15 → ⊥) → (a .low ≡ 0) × (a .high ≡ 0)
   -- 11 to 15, and acceptance, have place 0
-  pub place-only : (a .refusal ≡ 10 → ⊥) → a .place ≡ 0
+  pub place-only : (a .refusal ≡ 10 → ⊥) → (a .refusal ≡ 16 → ⊥) → a .place ≡ 0
 
 pub unread-sheet : (sheet : Bytes) (n : ℕ) (r : Refusal) (p : ℕ) → readSheet sheet ≡ bad r p → RefusedSheet (number r) p (answer sheet n)
 unfolding answer
@@ -91,7 +91,7 @@ pub record StepsAre (g : Program) (taken : List State) (n : ℕ) : Type 0 where
   pub few : n ≤ g .header .budget
 
 module _ (g : Program) (slots : ℕ) where
-  refused-with : (r p n : ℕ) → StepsAre g (statesTaken g slots) n → 10 ≤ r → ((r ≡ 10 → ⊥) → p ≡ 0) → SearchedSheet g slots (five r p n 0 0)
+  refused-with : (r p n : ℕ) → StepsAre g (statesTaken g slots) n → 10 ≤ r → ((r ≡ 10 → ⊥) → (r ≡ 16 → ⊥) → p ≡ 0) → SearchedSheet g slots (five r p n 0 0)
   refused-with r p n h k z = record {
     steps-are-taken = h .count;
     steps-in-budget = h .few;
@@ -101,11 +101,12 @@ module _ (g : Program) (slots : ℕ) where
   }
 
   failed : (r : Refusal) (p n : ℕ) → Given r p → StepsAre g (statesTaken g slots) n → SearchedSheet g slots (five (number r) p n 0 0)
-  failed r p n (unreadable q) h = refused-with 10 p n h (omega arith) (λ k. absurd (k refl))
-  failed r p n is-stuck h = refused-with 11 0 n h (omega arith) (λ _. refl)
-  failed r p n past-limit h = refused-with 12 0 n h (omega arith) (λ _. refl)
-  failed r p n no-steps h = refused-with 13 0 n h (omega arith) (λ _. refl)
-  failed r p n no-room h = refused-with 14 0 n h (omega arith) (λ _. refl)
+  failed r p n (unreadable zero-divisor q) h = refused-with 10 p n h (omega arith) (λ k _. absurd (k refl))
+  failed r p n (unreadable off-the-scale q) h = refused-with 16 p n h (omega arith) (λ _ k. absurd (k refl))
+  failed r p n is-stuck h = refused-with 11 0 n h (omega arith) (λ _ _. refl)
+  failed r p n past-limit h = refused-with 12 0 n h (omega arith) (λ _ _. refl)
+  failed r p n no-steps h = refused-with 13 0 n h (omega arith) (λ _ _. refl)
+  failed r p n no-room h = refused-with 14 0 n h (omega arith) (λ _ _. refl)
 
   accepted : (n a b : ℕ) → StepsAre g (statesTaken g slots) n → SearchedSheet g slots (five 0 0 n a b)
   accepted n a b h = record {
@@ -113,7 +114,7 @@ module _ (g : Program) (slots : ℕ) where
     steps-in-budget = h .few;
     no-early-refusal = λ z. absurd (z refl);
     window-only = λ z _. absurd (z refl);
-    place-only = λ _. refl;
+    place-only = λ _ _. refl;
   }
 
   broken : (n a b : ℕ) → StepsAre g (statesTaken g slots) n → SearchedSheet g slots (five 15 0 n a b)
@@ -122,7 +123,7 @@ module _ (g : Program) (slots : ℕ) where
     steps-in-budget = h .few;
     no-early-refusal = λ _. omega arith;
     window-only = λ _ z. absurd (z refl);
-    place-only = λ _. refl;
+    place-only = λ _ _. refl;
   }
 
   judged : (e : End) → GivenEnd e → StepsAre g (statesTaken g slots) (stepsOf e) → SearchedSheet g slots (judge (g .header .labelLow) (g .header .labelHigh) e)

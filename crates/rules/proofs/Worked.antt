@@ -1,10 +1,12 @@
--- The starred sheets of 01, the facts and examples beside them and the worked runs, proved by computing the rules on them.
+-- The starred sheets of 01, the facts and examples beside them, the worked runs and the worked faults, proved by computing the
+-- rules on them.
 use mathlib.Core.Path.{refl}
-use Rattle.rules.specs.Base.{nil, _&_}
-use Rattle.rules.specs.Worked.{table, StarredSheets}
+use Rattle.rules.specs.Base.{Each, nil, _&_}
+use Rattle.rules.specs.Worked.{Holds, table, StarredSheets}
 use Rattle.rules.specs.Edges.{row-of, edges, EdgesHold}
 use Rattle.rules.specs.Examples.{examples, ExamplesHold}
-use Rattle.rules.specs.Runs.{runs, RunsPlay}
+use Rattle.rules.specs.Runs.{Plays, runs, RunsPlay}
+use Rattle.rules.specs.Faults.{faults, run-faults}
 use Rattle.rules.proofs.Compute.{every-rule}
 
 pub starred-sheets : StarredSheets
@@ -25,3 +27,11 @@ examples-hold = refl & refl & refl & refl & refl & refl & refl & refl & nil
 pub runs-play : RunsPlay
 unfolding runs every-rule
 runs-play = refl & refl & refl & refl & refl & refl & refl & refl & refl & refl & refl & refl & refl & refl & refl & refl & refl & refl & nil
+
+pub faults-told : Each Holds faults
+unfolding faults every-rule
+faults-told = refl & refl & refl & refl & refl & refl & refl & refl & refl & refl & refl & refl & refl & refl & refl & refl & refl & refl & refl & refl & refl & refl & refl & refl & refl & refl & refl & nil
+
+pub run-faults-told : Each Plays run-faults
+unfolding run-faults every-rule
+run-faults-told = refl & refl & refl & refl & refl & refl & refl & nil

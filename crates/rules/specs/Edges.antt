@@ -76,7 +76,7 @@ edges =
     ∷ gives (routine 0 (branch 1 1 2 always ++ halt)) 12000 (five 5 27 0 0 0)
     -- G as whole sheets: 10 by -1..1, the lowest value by -1, and -7 by 2, which is -3
     ∷ gives (with-register minus-1 1 (assign 1 1 0 (divide (constant 10) (reg 0)) ++ halt)) 12000 (five 10 38 1 0 0)
-    ∷ gives (with-register minus-1 minus-1 (assign 1 1 0 (divide (constant lowest) (reg 0)) ++ halt)) 12000 (five 10 38 1 0 0)
+    ∷ gives (with-register minus-1 minus-1 (assign 1 1 0 (divide (constant lowest) (reg 0)) ++ halt)) 12000 (five 16 38 1 0 0)
     ∷ gives (with-register minus-7 minus-7 (assign 1 1 0 (divide (reg 0) (constant 2)) ++ branch 1 1 3 (equal (reg 0) (constant minus-3)) ++ skip 5 5 ++ halt)) 12000
     (five 0 0 3 2 2)
     -- H as whole sheets

@@ -6,7 +6,7 @@ use lib.IntN.{pos, negsuc}
 use Rattle.rules.specs.Base.{Each}
 use Rattle.rules.specs.Format.{Bytes}
 use Rattle.rules.specs.Search.{five}
-use Rattle.rules.specs.Refusal.{value, fault, noReading}
+use Rattle.rules.specs.Refusal.{value, fault, noReading, offScale}
 use Rattle.rules.specs.Interval.{interval, plus, minus, times, divide}
 use Rattle.rules.specs.Program.{Arith, Condition}
 use Rattle.rules.specs.Program as P
@@ -58,7 +58,7 @@ examples =
     -- -3..4 times itself: the ends are -3 times 4 and 4 times 4
     ∷ evaluates (P.operation times r0 r0) (only (negsuc 2) (pos 4)) (value (interval (negsuc 11) (pos 16)))
     ∷ evaluates (P.operation plus r0 (P.constant (pos 2147483647))) (only (pos 0) (pos 0)) (value (interval (pos 2147483647) (pos 2147483647)))
-    ∷ evaluates (P.operation plus r0 (P.constant (pos 2147483647))) (only (pos 0) (pos 1)) (fault noReading)
+    ∷ evaluates (P.operation plus r0 (P.constant (pos 2147483647))) (only (pos 0) (pos 1)) (fault offScale)
     ∷ evaluates (P.operation minus r0 r0) (only (pos 3) (pos 4)) (value (interval (negsuc 0) (pos 1)))
     ∷ []
 

@@ -19,14 +19,16 @@ Regs = List Interval
 abbrev pub zeroInterval : Interval
 zeroInterval = interval (pos 0) (pos 0)
 
--- ---- evaluation: the interval of an expression, or the first fault from the left
+-- ---- evaluation: the interval of an expression, or the first fault. 02, ticket 1: "Within one expression the left operand speaks
+-- first, then the right, then the operator"
 
 unfoldable pub evaluate : Arith → Regs → Result Interval
 evaluate (constant z) rs = value (interval z z)
 evaluate (register r) rs = value (getD rs r zeroInterval)
 evaluate (operation o a b) rs = onBoth (combine half32 o) (evaluate a rs) (evaluate b rs)
 
--- "10 is given in every part of a condition with the registers as they stand before narrowing"
+-- "10 is given in every part of a condition with the registers as they stand before narrowing", and 16 where 10 is: the first
+-- fault from the left. Not, "and", equal and less have no fault of their own
 unfoldable pub allParts : Condition → Regs → Result (Unit {0})
 allParts always rs = value tt
 allParts never rs = value tt

@@ -4,7 +4,7 @@ use Prim.Native.Nat.{ℕ}
 use lib.IntN.{ℤ, pos, negℤ, _+ℤ_, _-ℤ_, _*ℤ_}
 use lib.Signed.{leZ, ltZ, quotZ, _≤ℤ_}
 use Rattle.rules.specs.Base.{if_then_else_}
-use Rattle.rules.specs.Refusal.{Result, value, fault, noReading}
+use Rattle.rules.specs.Refusal.{Result, value, fault, noReading, offScale}
 
 pub record Interval : Type 0 where
   pub low : ℤ
@@ -47,7 +47,8 @@ operate minus a b = a -ℤ b
 operate times a b = a *ℤ b
 operate divide a b = quotient a b
 
--- ---- on values: "A zero divisor or a result outside [the width's values] has no result."
+-- ---- on values: "A zero divisor or a result outside [the width's values] has no result." Which of the two is told (02, ticket 1):
+-- "for a divide, zero before size"
 
 unfoldable pub dividesByZero : Operator → ℤ → Bool
 dividesByZero plus b = false
@@ -60,7 +61,7 @@ calculate n o a b =
     let z = operate o a b in
     if dividesByZero o b then fault noReading
     else if inRange n z then value z
-    else fault noReading
+    else fault offScale
 
 -- ---- on intervals: "Arithmetic takes least and greatest over the interval ends"
 
@@ -85,10 +86,11 @@ mayDivideByZero divide j = holdsZero j
 unfoldable pub fits : ℕ → Interval → Bool
 fits n i = inRange n (i .low) && inRange n (i .high)
 
+-- 16, where not: "a result off the 32-bit values becomes its own number"
 unfoldable pub within : ℕ → Interval → Result Interval
-within n i = if fits n i then value i else fault noReading
+within n i = if fits n i then value i else fault offScale
 
--- 10: "a divisor's interval holds 0, or a result's interval leaves the 32-bit values"
+-- 10: "a divisor that may be 0"; "for a divide, zero before size"
 unfoldable pub combine : ℕ → Operator → Interval → Interval → Result Interval
 combine n o i j = if mayDivideByZero o j then fault noReading else within n (hull (operate o) i j)
 

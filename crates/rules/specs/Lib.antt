@@ -16,4 +16,5 @@ pub mod Worked
 pub mod Edges
 pub mod Examples
 pub mod Runs
+pub mod Faults
 pub mod ShutOut

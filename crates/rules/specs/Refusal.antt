@@ -1,4 +1,4 @@
--- What the tool says no to (01, the table of that section): a name for each row, and its number.
+-- What the tool says no to (01, the table of that section; from 16 on: 02): a name for each row, and its number.
 -- A refusal travels as data: a result is a value, or the refusal that stands in its way.
 use Prim.Native.Nat.{ℕ}
 
@@ -21,7 +21,7 @@ pub data Refusal : Type 0 where
   tooMany : Refusal
   -- more than 16,384 bytes
   tooLong : Refusal
-  -- a divisor's interval holds 0, or a result's interval leaves the 32-bit values
+  -- a divisor's interval holds 0 (02, ticket 1: "a divisor that may be 0 stays 10")
   noReading : Refusal
   -- some thread has not halted and every such thread stands at a lock another owns
   stuck : Refusal
@@ -33,6 +33,8 @@ pub data Refusal : Type 0 where
   outOfRoom : Refusal
   -- the window found is not inside the label
   labelBroken : Refusal
+  -- a result's interval leaves the 32-bit values (02, ticket 1: "becomes its own number")
+  offScale : Refusal
 
 abbrev pub number : Refusal → ℕ
 number short = 1
@@ -50,6 +52,7 @@ number pastLimit = 12
 number outOfSteps = 13
 number outOfRoom = 14
 number labelBroken = 15
+number offScale = 16
 
 pub data Result (A : Type 0) : Type 0 where
   value : A → Result A

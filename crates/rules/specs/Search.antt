@@ -28,7 +28,7 @@ pub record State : Type 0 where
 
 -- ---- one event of thread t, which stands at x; its clock becomes low..high
 
--- no reading, or the states that follow
+-- a fault of the arithmetic, or the states that follow
 pub data Next : Type 0 where
   unread : Refusal → Next
   states : List State → Next
