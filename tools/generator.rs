@@ -2,7 +2,7 @@
 //! includes this has `mod oracle` beside it: the oracle's answers serve to find
 //! the labels, limits, budgets and buffers that just suffice or just do not.
 
-use crate::oracle::{check, Answer};
+use crate::oracle::{check, quotient, Answer};
 
 /// A search that would take more steps than this is not offered.
 pub const MOST_STEPS: u32 = 20_000;
@@ -130,7 +130,7 @@ impl Arithmetic {
                             18 => a + b,
                             19 => a - b,
                             20 => a * b,
-                            _ => a / b,
+                            _ => quotient(a, b),
                         });
                     }
                 }
@@ -613,7 +613,7 @@ impl Generator {
     fn plan(&mut self) -> Plan {
         self.values = self.random.pick(&[Values::Small, Values::Small, Values::Small, Values::Extreme, Values::Any]);
         self.pace = self.random.pick(&[Pace::Unit, Pace::Unit, Pace::Tiny, Pace::Tiny, Pace::Wide, Pace::Huge]);
-        match self.random.below(30) {
+        match self.random.below(33) {
             0 | 1 => self.sequential(),
             2..=4 => self.branching(),
             5 | 6 => self.joined(),
@@ -626,6 +626,7 @@ impl Generator {
             19..=21 => self.emptied(),
             22..=24 => self.chained(),
             25..=27 => self.faulting(),
+            28..=30 => self.dividing(),
             _ => self.mixed(),
         }
     }
@@ -1075,6 +1076,55 @@ impl Generator {
             })
             .collect();
         Plan::of(0, vec![], threads)
+    }
+
+    /// A range above 0, below 0 or, if asked for, on both sides of it.
+    fn signed_range(&mut self, across_zero: bool) -> Range {
+        let low = self.random.between(1, 30) as i32;
+        let high = low + self.random.pick(&[0, 0, 1, 3, 12]);
+        match self.random.below(3) {
+            0 => (low, high),
+            1 => (-high, -low),
+            _ if across_zero => (-low, high),
+            // a divisor: small more often
+            _ => self.random.pick(&[(2, 3), (-3, -2), (-2, -2), (-4, -1), (1, 4)]),
+        }
+    }
+
+    /// Quotients of registers 1 and 2 and of small constants: one alone, one inside
+    /// another, a remainder, a sum.
+    fn divided(&mut self) -> Arithmetic {
+        let whole = || operation(DIVIDE, Register(1), Register(2));
+        let few = Constant(self.random.pick(&[-5, -3, -2, -1, 1, 2, 3, 5]));
+        match self.random.below(10) {
+            0..=3 => whole(),
+            4 => operation(DIVIDE, Register(1), few),
+            5 => operation(DIVIDE, operation(TIMES, few, Register(1)), Register(2)),
+            6 => operation(DIVIDE, whole(), few),
+            7 => operation(DIVIDE, Register(1), operation(DIVIDE, Register(2), few)),
+            8 => operation(MINUS, Register(1), operation(TIMES, whole(), Register(2))),
+            _ => operation(PLUS, operation(DIVIDE, few, Register(2)), whole()),
+        }
+    }
+
+    /// Quotients of both signs, in an assignment or in a condition, whose ends are
+    /// then told from their neighbours.
+    fn dividing(&mut self) -> Plan {
+        let mut registers = vec![(0, 0), self.signed_range(true), self.signed_range(false)];
+        let value = self.divided();
+        let range = value.range(&registers);
+        if let (Some(range), true) = (range, self.random.chance(50)) {
+            let (before, condition, after) = narrowed_to(0, &value, range, self.random.below(NARROWED_FORMS));
+            registers[0] = before;
+            return self.followed(registers, condition, &[after]);
+        }
+        let mut statements = vec![assign(self.times(), 0, &value)];
+        for _ in 0..self.random.between(2, 4) {
+            // without a reading no test is reached
+            self.end_probe(&[range.unwrap_or((0, 0))], &mut statements);
+        }
+        statements.push(halt());
+        Plan::of(0, vec![], vec![Thread { registers, statements }])
     }
 
     /// Threads whose statements differ in times.
@@ -1603,6 +1653,10 @@ impl Generator {
         self.nesting_edges(&mut entries);
         self.narrowing_edges(&mut entries);
         self.arithmetic_edges(&mut entries);
+        self.quotient_edges(&mut entries);
+        self.nested_quotients(&mut entries);
+        self.quotient_faults(&mut entries);
+        self.quotient_loops(&mut entries);
         self.expression_faults(&mut entries);
         self.operator_faults(&mut entries);
         self.condition_faults(&mut entries);
@@ -2058,6 +2112,104 @@ impl Generator {
             let value = Operation(outer, Box::new(part), Box::new(Register(1)));
             add([(0, 0), (b, b)], value.clone(), true);
             add([(0, 0), (b.min(2 * b), b.max(2 * b))], value, true);
+        }
+    }
+
+    /// Quotients of each sign, exact and inexact, of single values and of ranges: each
+    /// in an assignment, and in the forms of a condition by turns.
+    fn quotient_edges(&mut self, entries: &mut Vec<Entry>) {
+        let (least, most) = (i32::MIN, i32::MAX);
+        let single = |values: &[i32]| values.iter().map(|&value| (value, value)).collect::<Vec<Range>>();
+        for (dividends, divisors) in [
+            (single(&[-7, -6, -1, 0, 1, 6, 7]), single(&[-3, -2, 2, 3])),
+            (single(&[least, least + 1, most - 1, most]), single(&[least, -3, -2, -1, 1, 2, 3, most])),
+            (
+                vec![(-9, -4), (-7, -1), (4, 9), (1, 7), (-7, 7), (-5, 8), (-3, 0), (0, 3)],
+                vec![(2, 2), (1, 3), (2, 5), (-2, -2), (-3, -1), (-5, -2)],
+            ),
+            (
+                vec![(least, -1), (least, most), (1, most), (least, least + 1), (most - 1, most)],
+                vec![(2, 3), (-3, -2), (2, most), (least, -2), (1, 1)],
+            ),
+        ] {
+            for (i, &dividend) in dividends.iter().enumerate() {
+                for (j, &divisor) in divisors.iter().enumerate() {
+                    entries.push(assigned(&[dividend, divisor], &operation(DIVIDE, Register(0), Register(1))));
+                    entries.extend(compared(dividend, divisor, (i + j) % (NARROWED_FORMS + 1)));
+                }
+            }
+        }
+    }
+
+    /// Quotients inside other expressions, of all signs.
+    fn nested_quotients(&mut self, entries: &mut Vec<Entry>) {
+        let by = |left: Arithmetic, right: Arithmetic| operation(DIVIDE, left, right);
+        let first = || by(Register(0), Register(1));
+        for value in [
+            by(first(), Register(2)),
+            by(Register(0), by(Register(2), Register(1))),
+            by(first(), by(Register(2), Register(1))),
+            by(operation(MINUS, Constant(0), Register(0)), Register(1)),
+            operation(MINUS, Constant(0), first()),
+            // the remainder
+            operation(MINUS, Register(0), operation(TIMES, first(), Register(1))),
+            by(operation(PLUS, first(), Register(2)), Register(1)),
+        ] {
+            for registers in [
+                [(-7, -7), (2, 2), (-3, -3)],
+                [(7, 7), (-2, -2), (3, 3)],
+                [(-7, 7), (2, 3), (-5, -4)],
+                [(-20, -9), (-3, -2), (4, 7)],
+                [(5, 17), (-4, -3), (-9, -5)],
+            ] {
+                entries.push(assigned(&registers, &value));
+            }
+        }
+    }
+
+    /// Quotients whose rounding decides whether a divisor is 0, or a result off the
+    /// 32-bit values.
+    fn quotient_faults(&mut self, entries: &mut Vec<Entry>) {
+        let (least, most) = (i32::MIN, i32::MAX);
+        let divided = || operation(DIVIDE, Register(0), Register(1));
+        for value in [
+            operation(DIVIDE, Constant(12), divided()),
+            operation(PLUS, Constant(least), divided()),
+            operation(PLUS, Constant(least + 1), divided()),
+            operation(MINUS, Constant(most), divided()),
+            operation(TIMES, Constant(1 << 30), divided()),
+        ] {
+            for registers in [
+                [(-1, -1), (2, 2)],
+                [(1, 1), (-2, -2)],
+                [(1, 1), (2, 2)],
+                [(-3, -1), (2, 3)],
+                [(-3, 0), (2, 3)],
+                [(1, 5), (-3, -2)],
+                [(-5, -5), (2, 2)],
+            ] {
+                entries.push(assigned(&registers, &value));
+            }
+        }
+    }
+
+    /// Loops that divide while the quotient is not 0, is above 0, or is below 0 or -1:
+    /// some end, some do not.
+    fn quotient_loops(&mut self, entries: &mut Vec<Entry>) {
+        let own = || Register(0);
+        for (start, divisor, again) in [
+            ((100, 100), 2, Comparison(LESS, Constant(0), own())),
+            ((-100, -100), 2, Comparison(LESS, own(), Constant(-1))),
+            ((-100, -100), 2, Comparison(LESS, own(), Constant(0))),
+            ((-100, 100), 3, Comparison(LESS, own(), Constant(-1))),
+            ((100, 100), -2, not(Comparison(EQUAL, own(), Constant(0)))),
+            ((-101, -100), -2, not(Comparison(EQUAL, own(), Constant(0)))),
+            ((-90, 100), -3, Comparison(LESS, own(), Constant(-1))),
+        ] {
+            let less = operation(DIVIDE, own(), Constant(divisor));
+            let statements = vec![assign((1, 1), 0, &less), jump((1, 2), 0, &again), halt()];
+            let plan = Plan::of(0, vec![], vec![Thread { registers: vec![start], statements }]);
+            entries.push(Entry { sheet: plan.limited(60).bytes(), length: PLAIN });
         }
     }
 
@@ -2629,6 +2781,71 @@ fn and(left: Condition, right: Condition) -> Condition {
 
 fn or(left: Condition, right: Condition) -> Condition {
     not(and(not(left), not(right)))
+}
+
+/// One thread of the statements and a last halt, with a header that takes nothing
+/// from the search.
+fn alone(registers: Vec<Range>, mut statements: Vec<Statement>) -> Entry {
+    statements.push(halt());
+    let plan = Plan::of(0, vec![], vec![Thread { registers, statements }]);
+    Entry { sheet: plan.bytes(), length: PLAIN }
+}
+
+/// The value in r0, its ends told from their neighbours if it has a reading.
+fn assigned(registers: &[Range], value: &Arithmetic) -> Entry {
+    let mut statements = vec![assign((1, 1), 0, value)];
+    if let Some(range) = value.range(registers) {
+        tell_apart(&Register(0), range, &mut statements);
+    }
+    alone(registers.to_vec(), statements)
+}
+
+/// The quotient of r0 and r1 in a condition: in every test, or in one that narrows
+/// r2 by it. None if it has no reading.
+fn compared(dividend: Range, divisor: Range, form: usize) -> Option<Entry> {
+    let value = operation(DIVIDE, Register(0), Register(1));
+    let range = value.range(&[dividend, divisor])?;
+    if form == NARROWED_FORMS {
+        let mut statements = vec![];
+        tell_apart(&value, range, &mut statements);
+        return Some(alone(vec![dividend, divisor], statements));
+    }
+    let (before, condition, after) = narrowed_to(2, &value, range, form);
+    let mut statements = vec![jump((1, 1), 2, &condition), halt()];
+    tell_apart(&Register(2), after, &mut statements);
+    Some(alone(vec![dividend, divisor, before], statements))
+}
+
+/// Tests that do not all come out alike if an end of the value is one further out
+/// or in, each a jump over a skip of another time.
+fn tell_apart(value: &Arithmetic, (low, high): Range, statements: &mut Vec<Statement>) {
+    let own = || value.clone();
+    for (test, time) in [
+        (Comparison(LESS, own(), Constant(low)), 1),
+        (Comparison(LESS, own(), Constant(low.saturating_add(1))), 2),
+        (Comparison(LESS, Constant(high), own()), 4),
+        (Comparison(LESS, Constant(high.saturating_sub(1)), own()), 8),
+    ] {
+        statements.push(jump((1, 1), statements.len() + 2, &test));
+        statements.push(skip((time, time)));
+    }
+}
+
+/// The forms of `narrowed_to`.
+const NARROWED_FORMS: usize = 5;
+
+/// A range for the register, a condition that narrows it by the value, whose own
+/// range is low..high, and what the register's becomes.
+fn narrowed_to(register: u8, value: &Arithmetic, (low, high): Range, form: usize) -> (Range, Condition, Range) {
+    let before = (low.saturating_sub(3), high.saturating_add(3));
+    let (own, value) = (Register(register), value.clone());
+    match form {
+        0 => (before, Comparison(EQUAL, own, value), (low, high)),
+        1 => (before, Comparison(LESS, own, value), (before.0, high.saturating_sub(1))),
+        2 => (before, Comparison(LESS, value, own), (low.saturating_add(1), before.1)),
+        3 => (before, not(Comparison(LESS, own, value)), (low, before.1)),
+        _ => (before, not(Comparison(LESS, value, own)), (before.0, high)),
+    }
 }
 
 /// The ranges of the registers where the condition holds, as the oracle's answers

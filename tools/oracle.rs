@@ -470,8 +470,17 @@ impl Operand<'_> {
 /// operator": the first fault met is passed up, here and with intervals.
 type Fault = u8;
 
-/// "Division drops the fraction toward zero. A zero divisor or a result
-/// outside −2,147,483,648..2,147,483,647 has no result."
+/// "The new board's divide goes toward minus infinity": the greatest whole number
+/// that is at most the fraction. "−7 by 2 is −4 and 7 by −2 is −4." The divisor is
+/// not 0.
+pub fn quotient(dividend: i64, divisor: i64) -> i64 {
+    // `/` goes toward zero, which is upward where the signs differ
+    let upward = dividend % divisor != 0 && (dividend < 0) != (divisor < 0);
+    dividend / divisor - i64::from(upward)
+}
+
+/// "A zero divisor or a result outside −2,147,483,648..2,147,483,647 has no
+/// result."
 fn apply(operator: Operator, left: i32, right: i32) -> Result<i32, Fault> {
     let (left, right) = (i64::from(left), i64::from(right));
     let result = match operator {
@@ -480,7 +489,7 @@ fn apply(operator: Operator, left: i32, right: i32) -> Result<i32, Fault> {
         Operator::Times => left * right,
         // "for a divide, zero before size"
         Operator::Divide if right == 0 => return Err(NO_READING),
-        Operator::Divide => left / right,
+        Operator::Divide => quotient(left, right),
     };
     i32::try_from(result).map_err(|_| OFF_THE_SCALE)
 }
@@ -1617,11 +1626,123 @@ mod tests {
         };
         assert_eq!(divided(10, -1, 1), Err(NO_READING));
         assert_eq!(divided(10, 1, 5), Ok(Interval { low: 2, high: 10 }));
-        assert_eq!(divided(-7, 2, 2), Ok(Interval { low: -3, high: -3 }));
+        // "Case G changes its third result."
+        assert_eq!(divided(-7, 2, 2), Ok(Interval { low: -4, high: -4 }));
+        assert_eq!(divided(7, -2, -2), Ok(Interval { low: -4, high: -4 }));
         // "Case G's lowest value by −1 changes its number."
         assert_eq!(divided(i32::MIN, -1, -1), Err(OFF_THE_SCALE));
         assert_eq!(divided(i32::MIN, -2, -1), Err(OFF_THE_SCALE));
         assert_eq!(divided(i32::MIN, -3, -2), Ok(Interval { low: 715_827_882, high: 1 << 30 }));
+        assert_eq!(divided(i32::MIN, 2, 3), Ok(Interval { low: -1 << 30, high: -715_827_883 }));
+        assert_eq!(divided(-7, 2, 5), Ok(Interval { low: -4, high: -2 }));
+        assert_eq!(divided(-7, -5, -2), Ok(Interval { low: 1, high: 3 }));
+        assert_eq!(divided(7, -5, -2), Ok(Interval { low: -4, high: -2 }));
+        assert_eq!(divided(-1, 2, i32::MAX), Ok(Interval { low: -1, high: -1 }));
+    }
+
+    /// The quotients of the 32-bit values: the last column is dividend by divisor,
+    /// "toward minus infinity".
+    #[test]
+    fn quotients_of_values() {
+        let (lowest, highest) = (i32::MIN, i32::MAX);
+        for (dividend, divisor, expected) in [
+            // inexact, both signs of each
+            (7, 2, 3),
+            (-7, 2, -4),
+            (7, -2, -4),
+            (-7, -2, 3),
+            (1, 3, 0),
+            (-1, 3, -1),
+            (1, -3, -1),
+            (-1, -3, 0),
+            // exact
+            (6, 2, 3),
+            (-6, 2, -3),
+            (6, -2, -3),
+            (-6, -2, 3),
+            (0, 5, 0),
+            (0, -5, 0),
+            // at the ends of the values
+            (lowest, 1, lowest),
+            (lowest, 2, -1 << 30),
+            (lowest, -2, 1 << 30),
+            (lowest, 3, -715_827_883),
+            (lowest, highest, -2),
+            (lowest, lowest, 1),
+            (lowest + 1, -1, highest),
+            (highest, 1, highest),
+            (highest, -1, lowest + 1),
+            (highest, 2, (1 << 30) - 1),
+            (highest, -2, -1 << 30),
+            (highest, lowest, -1),
+            (-1, highest, -1),
+            (1, lowest, -1),
+            (-1, lowest, 0),
+        ] {
+            assert_eq!(apply(Operator::Divide, dividend, divisor), Ok(expected), "{dividend} by {divisor}");
+        }
+        assert_eq!(apply(Operator::Divide, lowest, -1), Err(OFF_THE_SCALE));
+    }
+
+    /// Values about 0, about 65,536 and the halves on both sides, and at both ends.
+    fn corner_values() -> Vec<i32> {
+        [i32::MIN, i32::MIN / 2, -65_536, 0, 65_536, i32::MAX / 2, i32::MAX]
+            .iter()
+            .flat_map(|middle| (-3..=3).filter_map(move |more| middle.checked_add(more)))
+            .collect()
+    }
+
+    /// A quotient is the greatest whole number that is at most the fraction, said by
+    /// products; only the lowest value by −1 has one off the 32-bit values.
+    #[test]
+    fn quotient_is_the_greatest_below() {
+        let is_greatest = |dividend: i32, divisor: i32| {
+            let (a, b) = (i64::from(dividend), i64::from(divisor));
+            let q = quotient(a, b);
+            if b > 0 {
+                assert!(q * b <= a && a < (q + 1) * b, "{} by {}: {}", a, b, q);
+            } else {
+                assert!(q * b >= a && a > (q + 1) * b, "{} by {}: {}", a, b, q);
+            }
+            let off_the_scale = apply(Operator::Divide, dividend, divisor) == Err(OFF_THE_SCALE);
+            assert_eq!(off_the_scale, (dividend, divisor) == (i32::MIN, -1), "{a} by {b}");
+        };
+        for divisor in (-40..=40).filter(|&divisor| divisor != 0) {
+            (-100..=100).for_each(|dividend| is_greatest(dividend, divisor));
+        }
+        for divisor in corner_values().into_iter().filter(|&divisor| divisor != 0) {
+            corner_values().into_iter().for_each(|dividend| is_greatest(dividend, divisor));
+        }
+    }
+
+    /// Least and greatest over the ends are the least and the greatest quotient of
+    /// any two values of the intervals.
+    #[test]
+    fn quotients_of_intervals() {
+        let whole = operation(Operator::Divide, register(0), register(1));
+        let ranges = || (-8..=8).flat_map(|low| (low..=8).map(move |high| (low, high)));
+        for (low, high) in ranges().filter(|&(low, high)| low > 0 || high < 0) {
+            for left in ranges() {
+                let all = (left.0..=left.1).flat_map(|a| (low..=high).map(move |b| (a, b)));
+                let all: Vec<i32> = all.map(|(a, b)| apply(Operator::Divide, a, b).unwrap()).collect();
+                let expected = Interval { low: *all.iter().min().unwrap(), high: *all.iter().max().unwrap() };
+                assert_eq!(interval_of(&whole, &with(&[left, (low, high)])), Ok(expected), "{left:?} by {low}..{high}");
+            }
+        }
+    }
+
+    /// A run over single values divides as intervals do.
+    #[test]
+    fn quotient_in_a_run() {
+        // r0 := r0 / r1
+        let divides = statement(1, 1, &[2, 0, 21, 17, 0, 17, 1]);
+        for (dividend, divisor, expected) in [(-7, 2, -4), (7, -2, -4), (7, 2, 3), (-7, -2, 3), (-6, 2, -3)] {
+            let ranges = [range(5, dividend, dividend), range(5, divisor, divisor)].concat();
+            let sheet = [opening(0, 0), field(4, &[2]), ranges, divides.clone(), halt()].concat();
+            let program = read_program(&sheet).unwrap();
+            let Step::Next(next) = step(&program, &RunState::first(&program, &[dividend, divisor]), 0, 1) else { panic!() };
+            assert_eq!(next.threads[0].registers[0], expected);
+        }
     }
 
     const OPERATORS: [Operator; 4] = [Operator::Plus, Operator::Minus, Operator::Times, Operator::Divide];

@@ -210,11 +210,23 @@ slip("operator's right not deep", "the right of an operator is as deep as the op
 
 # ---- arithmetic
 
-slip("rounding down", "division rounds down",
-     ("Operator::Divide => left / right,", "Operator::Divide => left / right - i64::from(left % right != 0 && (left < 0) != (right < 0)),"))
-slip("rounding up", "division rounds up",
-     ("Operator::Divide => left / right,", "Operator::Divide => left / right + i64::from(left % right != 0 && (left < 0) == (right < 0)),"))
-slip("rounding by the dividend", "division leaves no negative remainder", ("Operator::Divide => left / right,", "Operator::Divide => left.div_euclid(right),"))
+QUOTIENT = "    dividend / divisor - i64::from(upward)\n"
+INEXACT, SIGNS_DIFFER = "dividend % divisor != 0", "(dividend < 0) != (divisor < 0)"
+slip("rounding toward zero", "division drops the fraction toward zero, as in 01", (QUOTIENT, "    dividend / divisor\n"))
+slip("rounding up", "division rounds up", (QUOTIENT, f"    dividend / divisor + i64::from({INEXACT} && !upward)\n"))
+slip("rounding to the nearest", "division rounds to the nearest, down from a half",
+     (QUOTIENT, "    let down = dividend / divisor - i64::from(upward);\n    down + i64::from(2 * (dividend - down * divisor).abs() > divisor.abs())\n"))
+slip("no negative remainder", "division leaves no negative remainder", (QUOTIENT, "    dividend.div_euclid(divisor)\n"))
+for name, where, signs in (
+        ("both are negative", "where dividend and divisor are both negative", "dividend < 0 && divisor < 0"),
+        ("the dividend is negative", "where the dividend is negative", "dividend < 0"),
+        ("the divisor is negative", "where the divisor is negative", "divisor < 0"),
+        ("only the dividend is negative", "only where a negative dividend has a positive divisor", "dividend < 0 && divisor > 0"),
+        ("only the divisor is negative", "only where a positive dividend has a negative divisor", "dividend > 0 && divisor < 0"),
+        ("the signs are alike too", "whatever the signs", "true")):
+    slip(f"rounding down where {name}", f"an inexact quotient is lowered by one {where}", (SIGNS_DIFFER, signs))
+slip("exact quotients lowered", "an exact quotient below zero is lowered by one too", (INEXACT, "dividend != 0"))
+slip("0 lowered", "0 by a negative divisor is -1", (INEXACT, f"(dividend == 0 || {INEXACT})"))
 IN_RANGE = "    i32::try_from(result).map_err(|_| OFF_THE_SCALE)\n"
 slip("wrapping", "a result outside the 32-bit values wraps", (IN_RANGE, "    Ok(result as i32)\n"))
 slip("saturating", "a result outside the 32-bit values stays at the end",
@@ -222,7 +234,7 @@ slip("saturating", "a result outside the 32-bit values stays at the end",
 slip("lowest value left out", "the lowest value counts as outside", (IN_RANGE, "    i32::try_from(result).ok().filter(|&value| value != i32::MIN).ok_or(OFF_THE_SCALE)\n"))
 slip("highest value left out", "the highest value counts as outside", (IN_RANGE, "    i32::try_from(result).ok().filter(|&value| value != i32::MAX).ok_or(OFF_THE_SCALE)\n"))
 slip("lowest by -1", "the lowest value divided by -1 is the lowest value",
-     ("Operator::Divide => left / right,", "Operator::Divide => i64::from((left as i32).wrapping_div(right as i32)),"))
+     (QUOTIENT, "    i64::from((dividend as i32).wrapping_div(divisor as i32)) - i64::from(upward)\n"))
 slip("divisor 0 at the ends", "a divisor's interval is looked at only at its ends",
      ("right.low <= 0 && 0 <= right.high", "(right.low == 0 || right.high == 0)"))
 OPERANDS = "            let left = interval_of(left, registers)?;\n            let right = interval_of(right, registers)?;\n            if *operator"
@@ -238,7 +250,7 @@ slip("only the whole in range", "only the whole expression's result is held to t
       "        return interval_of(expression, registers).map(|range| (i128::from(range.low), i128::from(range.high)));\n    };\n"
       "    let (left, right) = (wide(left, registers)?, wide(right, registers)?);\n    if *operator == Operator::Divide && right.0 <= 0 && 0 <= right.1 {\n        return Err(NO_READING);\n    }\n"
       "    let ends = [(left.0, right.0), (left.0, right.1), (left.1, right.0), (left.1, right.1)].map(|(a, b)| match operator {\n"
-      "        Operator::Plus => a + b,\n        Operator::Minus => a - b,\n        Operator::Times => a.saturating_mul(b),\n        Operator::Divide => a / b,\n    });\n"
+      "        Operator::Plus => a + b,\n        Operator::Minus => a - b,\n        Operator::Times => a.saturating_mul(b),\n        Operator::Divide => a / b - i128::from(a % b != 0 && (a < 0) != (b < 0)),\n    });\n"
       "    Ok((*ends.iter().min().unwrap(), *ends.iter().max().unwrap()))\n}\n\n/// \"10 is given in every part of a condition with the registers as they stand\n"))
 LOW = "ends[0].min(ends[1]).min(ends[2]).min(ends[3])"
 HIGH = "ends[0].max(ends[1]).max(ends[2]).max(ends[3])"
@@ -247,6 +259,13 @@ for corner, words in enumerate(["both lows", "the left low with the right high",
     slip(f"least without corner {corner}", f"the least leaves out {words}", (LOW, "ends[{}].min(ends[{}]).min(ends[{}])".format(*others)))
     slip(f"greatest without corner {corner}", f"the greatest leaves out {words}", (HIGH, "ends[{}].max(ends[{}]).max(ends[{}])".format(*others)))
 slip("greatest is the least", "the greatest is taken as the least over the ends", (HIGH, LOW))
+# one end of a quotient's interval rounded otherwise
+for name, what, end, rounded in (
+        ("least toward zero", "the least quotient goes toward zero", LOW, "a / b"),
+        ("greatest toward zero", "the greatest quotient goes toward zero", HIGH, "a / b"),
+        ("greatest up", "the greatest quotient is rounded up, the least down", HIGH, "a / b + i32::from(a % b != 0 && (a < 0) == (b < 0))")):
+    slip(name, what, (end, "if *operator == Operator::Divide {\n                let pairs = [(left.low, right.low), (left.low, right.high), (left.high, right.low), (left.high, right.high)];\n"
+                      f"                let ends = pairs.map(|(a, b)| {rounded});\n                {end}\n            }} else {{\n                {end}\n            }}"))
 
 # ---- zero or size: which of the two, and in which order
 
@@ -258,7 +277,7 @@ CORNERS = ("            let ends = [\n                apply(*operator, left.low,
 NO_ENDS = ((f"            let low = {LOW};\n", ""), (f"            let high = {HIGH};\n", ""))
 # least and greatest as 64-bit numbers
 WIDE = ("            let wide = |a: i32, b: i32| {\n                let (a, b) = (i64::from(a), i64::from(b));\n                match operator {\n"
-        "                    Operator::Plus => a + b,\n                    Operator::Minus => a - b,\n                    Operator::Times => a * b,\n                    Operator::Divide => a / b,\n                }\n            };\n"
+        "                    Operator::Plus => a + b,\n                    Operator::Minus => a - b,\n                    Operator::Times => a * b,\n                    Operator::Divide => quotient(a, b),\n                }\n            };\n"
         "            let ends = [wide(left.low, right.low), wide(left.low, right.high), wide(left.high, right.low), wide(left.high, right.high)];\n"
         f"            let (low, high) = ({LOW}, {HIGH});\n")
 slip("both faults 10", "a result off the 32-bit values is 10", (SIXTEEN, "const OFF_THE_SCALE: u8 = 10;"))
@@ -598,6 +617,8 @@ slip("15 without the window", "15 gives no window", ("place: 0, steps, low, high
 
 same("ends held, not corners", "the least and the greatest leave the 32-bit values where one of the four does",
      (CORNERS, WIDE + "            let (Ok(low), Ok(high)) = (i32::try_from(low), i32::try_from(high)) else { return Err(OFF_THE_SCALE) };\n"), *NO_ENDS)
+same("rounding by the remainder", "a remainder has the dividend's sign: where it is not the divisor's, the fraction lies below zero",
+     (f"{INEXACT} && {SIGNS_DIFFER}", "dividend % divisor * divisor < 0"))
 same("10 and 16 before 11", "where every live thread waits for a lock, none has arithmetic to work out",
      ("        if state.stuck(program) {\n            return refused(STUCK, 0, steps);",
       "        if let (true, Err(Refusal { number, place })) = (state.stuck(program), push_successors(program, &state, bound, &mut Vec::new())) {\n" + FAULT + "        }\n"

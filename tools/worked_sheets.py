@@ -86,10 +86,11 @@ SHEETS = [
         ROOM,
         (0, 0, 9, 4, 6),
     ),
-    # The division, the test whose no state is empty, and halt at tick 2.
+    # -3 in 01; 02, ticket 5: "−7 by 2 is −4", "Case G changes its third result". The division, the test whose no state is empty,
+    # and halt at tick 2.
     (
         "G: -7 by 2",
-        text("thread; reg -7..-7; 1..1 r0 := r0 / 2; 1..1 if r0 == -3 goto 3; 5..5 skip; halt"),
+        text("thread; reg -7..-7; 1..1 r0 := r0 / 2; 1..1 if r0 == -4 goto 3; 5..5 skip; halt"),
         ROOM,
         (0, 0, 3, 2, 2),
     ),

@@ -8,6 +8,7 @@ use interval::Val;
 use refusal::Refusal;
 
 mod order;
+mod quotient;
 
 // ---- printing
 
@@ -164,30 +165,6 @@ fn figures() {
         0,
         0,
     );
-}
-
-// Quotients, of which the fraction is dropped toward zero.
-fn quotients() {
-    value(
-        b"7 / -2",
-        b"\x15\x10\x00\x00\x00\x07\x10\xff\xff\xff\xfe",
-        0,
-        0,
-        0,
-        0,
-    );
-    value(
-        b"-7 / -2",
-        b"\x15\x10\xff\xff\xff\xf9\x10\xff\xff\xff\xfe",
-        0,
-        0,
-        0,
-        0,
-    );
-    value(b"r0 / r1", b"\x15\x11\x00\x11\x01", -7, 7, 2, 3);
-    value(b"r0 / r1", b"\x15\x11\x00\x11\x01", -7, 7, -3, -2);
-    value(b"r0 / r1", b"\x15\x11\x00\x11\x01", 1, 2, 0, 3);
-    value(b"r0 / r1", b"\x15\x11\x00\x11\x01", 1, 2, -3, 0);
 }
 
 // Sums, differences and products, in both orders of operands.
@@ -533,7 +510,8 @@ fn condition_operands() {
 
 fn main() {
     figures();
-    quotients();
+    quotient::values();
+    quotient::spans();
     sums_and_products();
     extremes();
     nested();

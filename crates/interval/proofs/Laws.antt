@@ -1,14 +1,13 @@
--- Laws that the proofs of several functions cite: how large a sum, a difference, a product and a quotient can be, and that an
+-- Laws that the proofs of several functions cite: how large a sum, a difference and a product can be, and that an
 -- operation at 64 bits on two 32-bit numbers is the operation on the numbers. Assumes nothing.
-use Prim.Native.Nat.{ℕ, zero, suc, _+_, _*_, _-_, _/_, _^_, _≤_, _<_, zero-le}
+use Prim.Native.Nat.{ℕ, zero, suc, _+_, _*_, _-_, _^_, _≤_, _<_, zero-le}
 use mathlib.Core.Path.{_≡_, refl, sym, ap, ap₂, subst, subst₂, _∙_}
-use mathlib.Core.Logic.{_≢_}
-use mathlib.Core.Bool.{Bool, true, false, cond, Bool·beq}
-use native.Mathlib.Nat.{div-zero, zero-div, le-refl, le-trans, le-of-lt, mul-le-mul, div-le-self}
+use mathlib.Core.Bool.{Bool, true, false, cond}
+use native.Mathlib.Nat.{le-refl, le-trans, le-of-lt, mul-le-mul}
 use native.Mathlib.Omega.{arith}
 use lib.Dec.{T, ltb}
 use lib.IntN.{ℤ, pos, negsuc, natAbs, negℤ, sucℤ, predℤ, _+ℤ_, _-ℤ_, _*ℤ_, +ℤ-sucℤ, +ℤ-predℤ, +ℤ-idl, +ℤ-idr}
-use lib.Signed.{mag, quotZ, leZ, ltZ}
+use lib.Signed.{mag, leZ, ltZ}
 use mir.Syntax.{Width, w32, w64}
 use mir.Val.{SFits, toZ, ofZ}
 use mir.Facts.{toZ-ofZ, sfits-widen}
@@ -46,7 +45,7 @@ mag-add (pos a) (negsuc b) = mag-cond (ltb a (suc b)) (suc b - suc a) (a - suc b
 mag-add (negsuc a) (pos b) = mag-cond (ltb b (suc a)) (suc a - suc b) (b - suc a) (suc (a + b)) (omega arith) (omega arith)
 mag-add (negsuc a) (negsuc b) = omega arith
 
-mag-neg-pos : (m : ℕ) → mag (negℤ (pos m)) ≤ m
+pub mag-neg-pos : (m : ℕ) → mag (negℤ (pos m)) ≤ m
 mag-neg-pos zero = zero-le
 mag-neg-pos (suc m) = omega arith
 
@@ -63,12 +62,6 @@ mag-mul n (pos a) (pos b) h k = mul-le-mul (le-of-lt h) (le-of-lt k)
 mag-mul n (pos a) (negsuc b) h k = le-trans (mag-neg-pos (a * suc b)) (mul-le-mul (le-of-lt h) k)
 mag-mul n (negsuc a) (pos b) h k = le-trans (mag-neg-pos (suc a * b)) (mul-le-mul h (le-of-lt k))
 mag-mul n (negsuc a) (negsuc b) h k = mul-le-mul h k
-
-pub mag-quot : (x y : ℤ) → mag (quotZ x y) ≤ suc (mag x)
-mag-quot (pos a) (pos b) = omega (arith, div-le-self a b)
-mag-quot (pos a) (negsuc b) = omega (arith, mag-neg-pos (a / suc b), div-le-self a (suc b))
-mag-quot (negsuc a) (pos b) = omega (arith, mag-neg-pos (suc a / b), div-le-self (suc a) b)
-mag-quot (negsuc a) (negsuc b) = omega (arith, div-le-self (suc a) (suc b))
 
 -- ---- each operation on two 32-bit numbers fits 64 bits
 module _ {x y : ℤ} (hx : SFits w32 x) (hy : SFits w32 y) where
@@ -129,7 +122,7 @@ module _ (w : Width) (x y : ℤ) (e : leZ (toZ w (ofZ w x)) (toZ w (ofZ w y)) �
   unfolding maxZ
   max-no = rw (sym (leZ-back hx hy) ∙ e)
 
-true-false {ℓ} : {X : Type ℓ} → true ≡ false → X
+pub true-false {ℓ} : {X : Type ℓ} → true ≡ false → X
 true-false e = absurd (subst T e tt)
 
 pub in-fits : {z : ℤ} → inRange (2 ^ 31) z ≡ true → SFits w32 z
@@ -140,7 +133,7 @@ never-below : (a : ℕ) (t : Bool) → ltb a 0 ≡ t → t ≡ false
 never-below a true e = absurd (omega (arith, ltb-true a 0 e))
 never-below a false e = refl
 
-not-negative : (a : ℕ) → ltZ (pos a) (pos 0) ≡ false
+pub not-negative : (a : ℕ) → ltZ (pos a) (pos 0) ≡ false
 not-negative a = never-below a (ltb a 0) refl
 
 abs-below : (x : ℤ) → ltZ x (pos 0) ≡ true → pos 0 -ℤ x ≡ pos (natAbs x)
@@ -162,65 +155,6 @@ module _ (x : ℤ) (e : ltZ (wide x) (pos 0) ≡ true) (h : SFits w32 x) where
 module _ (x : ℤ) (e : ltZ (wide x) (pos 0) ≡ false) (h : SFits w32 x) where
   pub abs-no : wide x ≡ pos (natAbs x)
   abs-no = wide-is h ∙ abs-above x (sym (ap (λ (z : ℤ). ltZ z (pos 0)) (wide-is h)) ∙ e)
-
--- ---- a quotient by magnitudes, which are at most 2 ^ 31
-abs-small : (x : ℤ) → SFits w32 x → natAbs x ≤ 2 ^ 31
-abs-small (pos a) h = omega (arith, h .sfits)
-abs-small (negsuc a) h = omega (arith, h .sfits)
-
-abs-held : (x m : ℤ) → SFits w32 x → m ≡ pos (natAbs x) → toZ w64 (ofZ w64 m) ≡ pos (natAbs x)
-abs-held x m h e = ap (λ (z : ℤ). toZ w64 (ofZ w64 z)) e ∙ toZ-ofZ {w = w64} {z = pos (natAbs x)} (record { sfits = omega (arith, abs-small x h) })
-
-pub held-small : (x m : ℤ) → SFits w32 x → m ≡ pos (natAbs x) → mag (toZ w64 (ofZ w64 m)) ≤ 2 ^ 31
-held-small x m h e = rw (abs-held x m h e) (abs-small x h)
-
-divisor : (y : ℤ) → y ≢ pos 0 → 0 < natAbs y
-divisor (pos zero) ne = absurd (ne refl)
-divisor (pos (suc b)) ne = omega arith
-divisor (negsuc b) ne = omega arith
-
-pub divides : (y n : ℤ) → y ≢ pos 0 → n ≡ pos (natAbs y) → 0 < ofZ w64 n
-divides y n ne e = rw e (divisor y ne)
-
-module _ (p q : ℤ) (h : mag p ≤ 2 ^ 31) (k : mag q ≤ 2 ^ 31) where
-  pub sub-small : SFits w64 (p -ℤ q)
-  sub-small = record { sfits = omega (arith, mag-sub p q, h, k) }
-
-  pub quot-sub-small : (n : ℤ) → SFits w64 (quotZ (toZ w64 (ofZ w64 (p -ℤ q))) n)
-  quot-sub-small n = rw (toZ-ofZ sub-small) (record { sfits = omega (arith, mag-quot (p -ℤ q) n, mag-sub p q, h, k) })
-
-pub quot-small : (p n : ℤ) → mag p ≤ 2 ^ 31 → SFits w64 (quotZ p n)
-quot-small p n h = record { sfits = omega (arith, mag-quot p n, h) }
-
-quot-positive : (x y : ℤ) → Bool·beq (ltZ x (pos 0)) (ltZ y (pos 0)) ≡ true → quotZ (pos (natAbs x)) (pos (natAbs y)) ≡ quotZ x y
-quot-positive (pos a) (pos b) e = refl
-quot-positive (pos a) (negsuc b) e = true-false (sym e ∙ ap (λ (t : Bool). Bool·beq t true) (not-negative a))
-quot-positive (negsuc a) (pos b) e = true-false (sym e ∙ ap (Bool·beq true) (not-negative b))
-quot-positive (negsuc a) (negsuc b) e = refl
-
-quot-negative : (x y : ℤ) → Bool·beq (ltZ x (pos 0)) (ltZ y (pos 0)) ≡ false → quotZ (negℤ (pos (natAbs x))) (pos (natAbs y)) ≡ quotZ x y
-quot-negative (pos a) (pos b) e = true-false (sym (ap₂ Bool·beq (not-negative a) (not-negative b)) ∙ e)
-quot-negative (pos zero) (negsuc b) e = rw (zero-div (suc b)) refl
-quot-negative (pos (suc a)) (negsuc b) e = refl
-quot-negative (negsuc a) (pos b) e = refl
-quot-negative (negsuc a) (negsuc b) e = true-false e
-
-module _ (x y m n : ℤ) (hx : SFits w32 x) (hy : SFits w32 y) (em : m ≡ pos (natAbs x)) (en : n ≡ pos (natAbs y)) where
-  signs : (t : Bool) → Bool·beq (ltZ (toZ w32 (ofZ w32 x)) (pos 0)) (ltZ (toZ w32 (ofZ w32 y)) (pos 0)) ≡ t → Bool·beq (ltZ x (pos 0)) (ltZ y (pos 0)) ≡ t
-  signs t e = sym (ap₂ (λ (u v : ℤ). Bool·beq (ltZ u (pos 0)) (ltZ v (pos 0))) (toZ-ofZ hx) (toZ-ofZ hy)) ∙ e
-
-  pub quot-same : Bool·beq (ltZ (toZ w32 (ofZ w32 x)) (pos 0)) (ltZ (toZ w32 (ofZ w32 y)) (pos 0)) ≡ true → toZ w64 (ofZ w64 (quotZ (toZ w64 (ofZ w64 m)) (toZ w64 (ofZ w64 n)))) ≡ quotZ x y
-  quot-same e =
-      toZ-ofZ (quot-small (toZ w64 (ofZ w64 m)) (toZ w64 (ofZ w64 n)) (held-small x m hx em))
-      ∙ ap₂ quotZ (abs-held x m hx em) (abs-held y n hy en)
-      ∙ quot-positive x y (signs true e)
-
-  pub quot-opposite : Bool·beq (ltZ (toZ w32 (ofZ w32 x)) (pos 0)) (ltZ (toZ w32 (ofZ w32 y)) (pos 0)) ≡ false → toZ w64 (ofZ w64 (quotZ (toZ w64 (ofZ w64 (pos 0 -ℤ toZ w64 (ofZ w64 m)))) (toZ w64 (ofZ w64 n)))) ≡ quotZ x y
-  quot-opposite e =
-      let small = held-small x m hx em in
-      toZ-ofZ (quot-sub-small (pos 0) (toZ w64 (ofZ w64 m)) zero-le small (toZ w64 (ofZ w64 n)))
-      ∙ ap₂ quotZ (toZ-ofZ (sub-small (pos 0) (toZ w64 (ofZ w64 m)) zero-le small) ∙ +ℤ-idl (negℤ (toZ w64 (ofZ w64 m))) ∙ ap negℤ (abs-held x m hx em)) (abs-held y n hy en)
-      ∙ quot-negative x y (signs false e)
 
 -- ---- one more and one less
 pub plus-one : (z : ℤ) → z +ℤ pos 1 ≡ sucℤ z
@@ -244,10 +178,6 @@ pred-fits w (pos a) (negsuc b) e f g = true-false (sym e)
 -- ---- the bits 0 are the number 0
 pub zero-bits : (z : ℤ) → SFits w32 z → ofZ w32 z ≡ 0 → z ≡ pos 0
 zero-bits z h e = sym (toZ-ofZ h) ∙ ap (toZ w32) e
-
-pub quot-zero : (x : ℤ) → quotZ x (pos 0) ≡ pos 0
-quot-zero (pos a) = ap pos (div-zero a)
-quot-zero (negsuc a) = ap (λ (n : ℕ). negℤ (pos n)) (div-zero (suc a))
 
 -- `search signed` answers every need of an operation on two 32-bit fields at 64 bits
 pub ruleset signed = (needs, casts, add-fits′, add-is′, sub-fits′, sub-is′, mul-fits′, mul-is′, neg-fits, min-yes, max-yes, min-no, max-no)

@@ -66,19 +66,31 @@ fn magnitude(a: Val) -> Wide
     if x < 0 { Wide(-x) } else { Wide(x) }
 }
 
-// The quotient of the magnitudes with its sign: the fraction is dropped toward zero. Magnitudes fit 32 unsigned bits, and take
-// the machine's short division.
+// How far from 0 the quotient is. It is rounded down: away from 0 where the signs differ. Dividends and divisors here are below 2^32,
+// so that a division takes 32 bits.
+fn quotient_magnitude(a: Val, b: Val) -> Wide
+    requires { ⌜ b .0 ≢ pos 0 ⌝ }
+    ensures { λ q. ⌜ q .0 ≡ pos (natAbs (quotient (a .0) (b .0))) ⌝ }
+{
+    let m = magnitude(a);
+    let n = magnitude(b);
+    if (a.0 < 0) != (b.0 < 0) {
+        let d = m.0 + (n.0 - 1);
+        return Wide(d / n.0);
+    }
+    Wide(m.0 / n.0)
+}
+
 fn divide_nonzero(a: Val, b: Val) -> Wide
     requires { ⌜ b .0 ≢ pos 0 ⌝ }
     ensures { λ q. ⌜ q .0 ≡ quotient (a .0) (b .0) ⌝ }
 {
-    let m = magnitude(a);
-    let n = magnitude(b);
+    let q = quotient_magnitude(a, b);
     if (a.0 < 0) == (b.0 < 0) {
-        return Wide(m.0 / n.0);
+        q
+    } else {
+        Wide(-q.0)
     }
-    let d = -m.0;
-    Wide(d / n.0)
 }
 
 // By 0 it is 0, as in the rules: an end of a divisor's span can be 0 without the span holding 0, where low is above high.

@@ -3,9 +3,12 @@ pub mod Compute
 pub mod Worked
 pub mod Base
 pub mod Order
+pub mod Hull
+pub mod Quotient
 pub mod Ends
 pub mod Interval
 pub mod Tight
+pub mod Division
 pub mod Refusal
 pub mod Format
 pub mod Expression

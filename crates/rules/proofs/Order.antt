@@ -1,8 +1,11 @@
--- The order of ℤ, and the lesser and greater of two. `_≤ℤ_` is a record, so that the two numbers are inferred from a fact.
-use mathlib.Core.Bool.{Bool, true, false, not}
-use native.Mathlib.Nat.{le-trans, le-of-lt}
+-- The order of ℤ, negation, and the lesser and greater of two. `_≤ℤ_` is a record, so that the two numbers are inferred from a
+-- fact.
+use mathlib.Core.Bool.{not}
+use Prim.Native.Nat.{zero, suc, zero-le, suc-le-suc}
+use native.Mathlib.Nat.{le-trans, le-of-lt, le-of-suc-le-suc}
+use native.Mathlib.Omega.{arith}
 use lib.Dec.{T, leb→le, le→leb, nleb→lt}
-use lib.IntN.{ℤ, pos, negsuc}
+use lib.IntN.{ℤ, pos, negsuc, negℤ}
 use lib.Signed.{leZ, _≤ℤ_, ≤ℤ-refl, leZ-yes}
 use Rattle.rules.specs.Interval.{minZ, maxZ}
 use Rattle.rules.proofs.Base.{if-ind}
@@ -28,6 +31,17 @@ other′ (negsuc a) (negsuc b) t = le→leb a b (le-of-lt (nleb→lt b a t))
 -- the test failed
 pub leZ-no : (a b : ℤ) → T (not (leZ a b)) → b ≤ℤ a
 leZ-no a b t = record { le = other′ a b t }
+
+pub neg-anti : (a b : ℤ) → T (leZ a b) → T (leZ (negℤ b) (negℤ a))
+neg-anti (pos zero) (pos zero) h = tt
+neg-anti (pos zero) (pos (suc b)) h = tt
+neg-anti (pos zero) (negsuc b) h = absurd h
+neg-anti (pos (suc a)) (pos zero) h = absurd (omega (arith, leb→le (suc a) zero h))
+neg-anti (pos (suc a)) (pos (suc b)) h = le→leb a b (le-of-suc-le-suc (leb→le (suc a) (suc b) h))
+neg-anti (pos (suc a)) (negsuc b) h = absurd h
+neg-anti (negsuc a) (pos zero) h = le→leb zero (suc a) zero-le
+neg-anti (negsuc a) (pos (suc b)) h = tt
+neg-anti (negsuc a) (negsuc b) h = le→leb (suc b) (suc a) (suc-le-suc (leb→le b a h))
 
 pub min-left : (a b : ℤ) → minZ a b ≤ℤ a
 unfolding minZ

@@ -1,6 +1,6 @@
 -- Interval arithmetic is no wider than it must be, for every width: each end of a result is reached, and a refusal comes only
 -- where some pair of values on the intervals has no result, for that very reason: 10 a zero divisor, 16 a result off the width.
-use mathlib.Core.Path.{_≡_, refl, subst}
+use mathlib.Core.Path.{_≡_, refl, subst, sym}
 use mathlib.Core.Bool.{Bool, true, false, not, _&&_}
 use Prim.Native.Nat.{ℕ}
 use native.Mathlib.Omega.{arith}
@@ -58,13 +58,28 @@ module _ (f : ℤ → ℤ → ℤ) (i j : Interval) (oi : Ordered i) (oj : Order
 
 -- ---- a refusal only where some pair of values has no result, and the same refusal
 
-out-of-range : (n : ℕ) (o : Operator) (x y z : ℤ) → T (not (dividesByZero o y)) → operate o x y ≡ z → T (not (inRange n z)) → calculate n o x y ≡ fault offScale
+pub out-of-range : (n : ℕ) (o : Operator) (x y z : ℤ) → T (not (dividesByZero o y)) → operate o x y ≡ z → T (not (inRange n z)) → calculate n o x y ≡ fault offScale
 unfolding calculate
 out-of-range n o x y z d e u =
     if-ind (dividesByZero o y) (fault noReading) (if inRange n (operate o x y) then value (operate o x y) else fault offScale) (λ r. r ≡ fault offScale)
     (λ t. absurd (not-both (dividesByZero o y) d t))
     (λ _. if-ind (inRange n (operate o x y)) (value (operate o x y)) (fault offScale) (λ r. r ≡ fault offScale)
     (λ t. absurd (not-both (inRange n z) u (subst (λ (w : ℤ). T (inRange n w)) e t))) (λ _. refl))
+
+has-value : {w : ℤ} {r : Refusal} → value w ≡ fault r → ⊥
+has-value e = let z : _≡_ {A = ℕ} 0 1 = cc in omega arith
+
+faults-differ : _≡_ {A = Result ℤ} (fault offScale) (fault noReading) → ⊥
+faults-differ e = let z : _≡_ {A = ℕ} 0 1 = cc in omega arith
+
+-- 16 is given on values only where the result leaves the width
+pub off-scale-result : (n : ℕ) (o : Operator) (x y : ℤ) → calculate n o x y ≡ fault offScale → T (not (inRange n (operate o x y)))
+unfolding calculate
+off-scale-result n o x y =
+    let z = operate o x y in
+    let Leaves : Result ℤ → Type 0 = λ r. r ≡ fault offScale → T (not (inRange n z)) in
+    if-ind (dividesByZero o y) (fault noReading) (if inRange n z then value z else fault offScale) Leaves (λ _ e. absurd (faults-differ (sym e)))
+    (λ _. if-ind (inRange n z) (value z) (fault offScale) Leaves (λ _ e. absurd (has-value e)) (λ u _. u))
 
 by-zero : (n : ℕ) (o : Operator) (j : Interval) (x : ℤ) → T (mayDivideByZero o j) → (pos 0 ∈ j) × (calculate n o x (pos 0) ≡ fault noReading)
 unfolding mayDivideByZero holdsZero calculate dividesByZero eqZ
@@ -122,13 +137,7 @@ unfolding calculate
 divides-by-zero n o x y =
     let z = operate o x y in
     if-ind (dividesByZero o y) (fault noReading) (if inRange n z then value z else fault offScale) (λ r. r ≡ fault noReading → T (dividesByZero o y)) (λ t _. t)
-    (λ _. if-ind (inRange n z) (value z) (fault offScale) (λ r. r ≡ fault noReading → T (dividesByZero o y)) (λ _ e. absurd (is-value e)) (λ _ e. absurd (is-size e)))
-  where
-    is-value : {w : ℤ} → value w ≡ fault noReading → ⊥
-    is-value e = let z : _≡_ {A = ℕ} 0 1 = cc in omega arith
-
-    is-size : _≡_ {A = Result ℤ} (fault offScale) (fault noReading) → ⊥
-    is-size e = let z : _≡_ {A = ℕ} 0 1 = cc in omega arith
+    (λ _. if-ind (inRange n z) (value z) (fault offScale) (λ r. r ≡ fault noReading → T (dividesByZero o y)) (λ _ e. absurd (has-value e)) (λ _ e. absurd (faults-differ e)))
 
 pub zero-told : (n : ℕ) (o : Operator) (i j : Interval) → LacksResult n o i j noReading → combine n o i j ≡ fault noReading
 unfolding combine

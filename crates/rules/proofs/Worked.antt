@@ -1,4 +1,4 @@
--- The starred sheets of 01, the facts and examples beside them, the worked runs and the worked faults, proved by computing the
+-- The starred sheets of 01, the facts and examples beside them, the worked runs, faults and quotients, proved by computing the
 -- rules on them.
 use mathlib.Core.Path.{refl}
 use Rattle.rules.specs.Base.{Each, nil, _&_}
@@ -7,6 +7,7 @@ use Rattle.rules.specs.Edges.{row-of, edges, EdgesHold}
 use Rattle.rules.specs.Examples.{examples, ExamplesHold}
 use Rattle.rules.specs.Runs.{Plays, runs, RunsPlay}
 use Rattle.rules.specs.Faults.{faults, run-faults}
+use Rattle.rules.specs.Division.{quotients, quotient-runs}
 use Rattle.rules.proofs.Compute.{every-rule}
 
 pub starred-sheets : StarredSheets
@@ -35,3 +36,11 @@ faults-told = refl & refl & refl & refl & refl & refl & refl & refl & refl & ref
 pub run-faults-told : Each Plays run-faults
 unfolding run-faults every-rule
 run-faults-told = refl & refl & refl & refl & refl & refl & refl & nil
+
+pub quotients-hold : Each Holds quotients
+unfolding quotients every-rule
+quotients-hold = refl & refl & refl & refl & refl & refl & refl & refl & refl & refl & refl & refl & refl & refl & refl & refl & refl & refl & refl & refl & refl & refl & nil
+
+pub quotient-runs-play : Each Plays quotient-runs
+unfolding quotient-runs every-rule
+quotient-runs-play = refl & refl & refl & refl & refl & refl & nil

@@ -20,12 +20,15 @@ routine n statements = header 10 100 0 10 ++ locks n ++ thread 0 ++ statements
 abbrev pub with-register : ℕ → ℕ → Bytes → Bytes
 with-register a b statements = header 10 100 0 10 ++ locks 0 ++ thread 1 ++ register a b ++ statements
 
--- -1, -3, -7 and the lowest value, as four bytes hold them
+-- -1, -2, -4, -7 and the lowest value, as four bytes hold them
 abbrev pub minus-1 : ℕ
 minus-1 = 4294967295
 
-abbrev pub minus-3 : ℕ
-minus-3 = 4294967293
+abbrev pub minus-2 : ℕ
+minus-2 = 4294967294
+
+abbrev pub minus-4 : ℕ
+minus-4 = 4294967292
 
 abbrev pub minus-7 : ℕ
 minus-7 = 4294967289
@@ -74,10 +77,10 @@ edges =
     ∷ gives (header 64 100 64 64 ++ locks 0 ++ thread 0 ++ row-of 64 (skip 1 1) ++ halt) 12000 (five 8 539 0 0 0)
     -- a target that is absent is 5, at its statement
     ∷ gives (routine 0 (branch 1 1 2 always ++ halt)) 12000 (five 5 27 0 0 0)
-    -- G as whole sheets: 10 by -1..1, the lowest value by -1, and -7 by 2, which is -3
+    -- G as whole sheets: 10 by -1..1, the lowest value by -1, and -7 by 2, which is -4
     ∷ gives (with-register minus-1 1 (assign 1 1 0 (divide (constant 10) (reg 0)) ++ halt)) 12000 (five 10 38 1 0 0)
     ∷ gives (with-register minus-1 minus-1 (assign 1 1 0 (divide (constant lowest) (reg 0)) ++ halt)) 12000 (five 16 38 1 0 0)
-    ∷ gives (with-register minus-7 minus-7 (assign 1 1 0 (divide (reg 0) (constant 2)) ++ branch 1 1 3 (equal (reg 0) (constant minus-3)) ++ skip 5 5 ++ halt)) 12000
+    ∷ gives (with-register minus-7 minus-7 (assign 1 1 0 (divide (reg 0) (constant 2)) ++ branch 1 1 3 (equal (reg 0) (constant minus-4)) ++ skip 5 5 ++ halt)) 12000
     (five 0 0 3 2 2)
     -- H as whole sheets
     ∷ gives (with-register 3 4 (branch 1 1 2 (equal (reg 0) (reg 0)) ++ skip 2 2 ++ halt)) 12000 (five 0 0 4 1 3)

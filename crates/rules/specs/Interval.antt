@@ -1,8 +1,8 @@
 -- Intervals of whole numbers, and arithmetic on values and on intervals, for any width; 01 takes 32 bits.
 use mathlib.Core.Bool.{Bool, true, false, _&&_}
-use Prim.Native.Nat.{ℕ}
-use lib.IntN.{ℤ, pos, negℤ, _+ℤ_, _-ℤ_, _*ℤ_}
-use lib.Signed.{leZ, ltZ, quotZ, _≤ℤ_}
+use Prim.Native.Nat.{ℕ, zero, suc, _/_}
+use lib.IntN.{ℤ, pos, negsuc, negℤ, _+ℤ_, _-ℤ_, _*ℤ_}
+use lib.Signed.{leZ, ltZ, _≤ℤ_}
 use Rattle.rules.specs.Base.{if_then_else_}
 use Rattle.rules.specs.Refusal.{Result, value, fault, noReading, offScale}
 
@@ -37,9 +37,18 @@ inRange n z = leZ (negℤ (pos n)) z && ltZ z (pos n)
 pub data Operator : Type 0 where
   plus minus times divide : Operator
 
--- "Division drops the fraction toward zero."
+-- a number divided by n, n above 0, and rounded down. A number below 0 is -1 - a (`negsuc a`), and gives -1 - (the whole part of
+-- a / n)
+unfoldable pub floorDiv : ℤ → ℕ → ℤ
+floorDiv (pos a) n = pos (a / n)
+floorDiv (negsuc a) n = negsuc (a / n)
+
+-- 02, ticket 5: "The new board's divide goes toward minus infinity", where 01 dropped the fraction toward zero. By a divisor below
+-- 0 both signs are changed. By 0 there is no result, and 0 stands here
 unfoldable pub quotient : ℤ → ℤ → ℤ
-quotient a b = quotZ a b
+quotient a (pos zero) = pos 0
+quotient a (pos (suc n)) = floorDiv a (suc n)
+quotient a (negsuc n) = floorDiv (negℤ a) (suc n)
 
 unfoldable pub operate : Operator → ℤ → ℤ → ℤ
 operate plus a b = a +ℤ b

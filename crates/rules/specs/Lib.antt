@@ -17,4 +17,5 @@ pub mod Edges
 pub mod Examples
 pub mod Runs
 pub mod Faults
+pub mod Division
 pub mod ShutOut

@@ -90,11 +90,11 @@ table =
     ∷ gives D 12000 (five 0 0 19 3 4)
     ∷ gives E 12000 (five 11 0 3 0 0)
     ∷ gives F 12000 (five 0 0 4 1 11)
-    -- G: "10 divided by −1..1: refusal 10. By 1..5: 2..10. −7 by 2: −3. Lowest value by −1: refusal 10." The last is 16 by 02,
-    -- ticket 1: "Case G's lowest value by −1 changes its number."
+    -- G: "10 divided by −1..1: refusal 10. By 1..5: 2..10. −7 by 2: −3. Lowest value by −1: refusal 10." By 02 the third is -4
+    -- (ticket 5: "Case G changes its third result") and the last 16 (ticket 1: "Case G's lowest value by −1 changes its number")
     ∷ evaluates (divided (pos 10)) (only (negsuc 0) (pos 1)) (fault noReading)
     ∷ evaluates (divided (pos 10)) (only (pos 1) (pos 5)) (value (interval (pos 2) (pos 10)))
-    ∷ evaluates (divided (negsuc 6)) (only (pos 2) (pos 2)) (value (interval (negsuc 2) (negsuc 2)))
+    ∷ evaluates (divided (negsuc 6)) (only (pos 2) (pos 2)) (value (interval (negsuc 3) (negsuc 3)))
     ∷ evaluates (divided (negsuc 2147483647)) (only (negsuc 0) (negsuc 0)) (fault offScale)
     -- H: "register 3..4: "r0 equal r0" keeps both branches, "r0 less r0" has no yes state"
     ∷ narrows (P.equal (P.register 0) (P.register 0)) (only (pos 3) (pos 4)) (some (only (pos 3) (pos 4))) (some (only (pos 3) (pos 4)))

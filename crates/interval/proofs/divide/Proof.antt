@@ -1,17 +1,16 @@
 -- `interval::divide` meets its contract. Assumes nothing.
-use mathlib.Core.Path.{sym, ap, _∙_}
+use mathlib.Core.Path.{sym, ap}
 use Rattle.rules.specs.Interval.{quotient}
-use lib.Signed.{quotZ}
 use mir.Syntax.{w32}
 use mir.Val.{ofZ}
-use Rattle.interval.proofs.Laws.{zero-bits, quot-zero}
+use Rattle.interval.proofs.Laws.{zero-bits}
 use borrow.Author.Needs.{needs}
 use Rattle.interval.proofs.divide.Statement.{statement}
 use Rattle.interval.proofs.divide.Tie as tie
 
 returns : tie.Need-returns
 unfolding quotient
-returns c = sym (ap (quotZ (c .before .before .before .args .a .0)) (zero-bits _ (search needs) (c .if1 .taken)) ∙ quot-zero (c .before .before .before .args .a .0))
+returns c = sym (ap (quotient (c .before .before .before .args .a .0)) (zero-bits (c .before .before .before .args .b .0) (search needs) (c .if1 .taken)))
 
 divide-nonzero-requires : tie.Need-divide-nonzero-requires
 divide-nonzero-requires c κs = λ e. c .if1 .left (ap (ofZ w32) e)
