@@ -23,8 +23,9 @@ FILE may be - for standard input. The text form, one item on a line:
     1..1 unlock l0
     halt
 
-* and / bind before + and -, each from left to right. Conditions: true, false,
-a == b, a < b, !c, c && c (from left to right). Parentheses are allowed in both.
+* and / bind before + and -, each from left to right; / rounds down (-7 / 2 is
+-4). Conditions: true, false, a == b, a < b, !c, c && c (from left to right).
+Parentheses are allowed in both.
 Only the form is checked here: whether a number is within its range, or a name
 exists, is for the reader of the sheet to say.
 """
