@@ -1668,6 +1668,7 @@ impl Generator {
         self.order_edges(&mut entries);
         self.long_searches(&mut entries);
         self.long_sheets(&mut entries);
+        self.product_edges(&mut entries);
         entries
     }
 
@@ -2115,6 +2116,35 @@ impl Generator {
         }
     }
 
+    /// Products of factors about the ends of 16 bits, about twice these, and about the
+    /// greatest number whose square fits 32 bits: single values, and ranges that have
+    /// none, some or all of their ends there. Each in an assignment, every second one also
+    /// in a condition, in its forms by turns, if it has a reading.
+    fn product_edges(&mut self, entries: &mut Vec<Entry>) {
+        let values = [-65_537, -65_536, -46_341, -32_769, -32_768, -2, 3, 32_767, 32_768, 46_341, 65_535, 65_536];
+        let ranges = [
+            (-32_768, 32_767),
+            (-32_769, 32_767),
+            (-32_768, 32_768),
+            (-3, 32_767),
+            (-32_768, 2),
+            (-65_536, 5),
+            (-4, 65_537),
+            (-65_536, 65_536),
+            (-7, 6),
+        ];
+        for group in [values.map(|value| (value, value)).to_vec(), ranges.to_vec()] {
+            for (i, &a) in group.iter().enumerate() {
+                for (j, &b) in group.iter().enumerate() {
+                    entries.push(assigned(&[a, b], &operation(TIMES, Register(0), Register(1))));
+                    if (i + j) % 2 == 0 {
+                        entries.extend(compared(TIMES, a, b, (i + j / 2) % (NARROWED_FORMS + 1)));
+                    }
+                }
+            }
+        }
+    }
+
     /// Quotients of each sign, exact and inexact, of single values and of ranges: each
     /// in an assignment, and in the forms of a condition by turns.
     fn quotient_edges(&mut self, entries: &mut Vec<Entry>) {
@@ -2135,7 +2165,7 @@ impl Generator {
             for (i, &dividend) in dividends.iter().enumerate() {
                 for (j, &divisor) in divisors.iter().enumerate() {
                     entries.push(assigned(&[dividend, divisor], &operation(DIVIDE, Register(0), Register(1))));
-                    entries.extend(compared(dividend, divisor, (i + j) % (NARROWED_FORMS + 1)));
+                    entries.extend(compared(DIVIDE, dividend, divisor, (i + j) % (NARROWED_FORMS + 1)));
                 }
             }
         }
@@ -2800,20 +2830,20 @@ fn assigned(registers: &[Range], value: &Arithmetic) -> Entry {
     alone(registers.to_vec(), statements)
 }
 
-/// The quotient of r0 and r1 in a condition: in every test, or in one that narrows
+/// The operator on r0 and r1 in a condition: in every test, or in one that narrows
 /// r2 by it. None if it has no reading.
-fn compared(dividend: Range, divisor: Range, form: usize) -> Option<Entry> {
-    let value = operation(DIVIDE, Register(0), Register(1));
-    let range = value.range(&[dividend, divisor])?;
+fn compared(operator: u8, left: Range, right: Range, form: usize) -> Option<Entry> {
+    let value = operation(operator, Register(0), Register(1));
+    let range = value.range(&[left, right])?;
     if form == NARROWED_FORMS {
         let mut statements = vec![];
         tell_apart(&value, range, &mut statements);
-        return Some(alone(vec![dividend, divisor], statements));
+        return Some(alone(vec![left, right], statements));
     }
     let (before, condition, after) = narrowed_to(2, &value, range, form);
     let mut statements = vec![jump((1, 1), 2, &condition), halt()];
     tell_apart(&Register(2), after, &mut statements);
-    Some(alone(vec![dividend, divisor, before], statements))
+    Some(alone(vec![left, right, before], statements))
 }
 
 /// Tests that do not all come out alike if an end of the value is one further out

@@ -314,6 +314,32 @@ slip("only the low end held", "only a result's low end is held to the 32-bit val
 slip("only the high end held", "only a result's high end is held to the 32-bit values",
      (CORNERS, WIDE + "            let Ok(high) = i32::try_from(high) else { return Err(OFF_THE_SCALE) };\n            let low = low.max(i64::from(i32::MIN)) as i32;\n"), *NO_ENDS)
 
+# ---- products in 32 bits (02, ticket 3)
+
+
+def wrapping_products(test):
+    """Products that wrap at 32 bits where the test on the ends holds."""
+    return (CORNERS, "            let ends = [left.low, left.high, right.low, right.high];\n"
+            f"            let narrow = *operator == Operator::Times && {test};\n"
+            "            let corner = |a: i32, b: i32| if narrow { Ok(a.wrapping_mul(b)) } else { apply(*operator, a, b) };\n"
+            + CORNERS.replace("apply(*operator, ", "corner("))
+
+
+SIXTEEN_BITS = "(-32_768..=32_767).contains(&end)"
+for name, where, test in (
+        ("within bounds twice as wide", "where all four ends lie within -65,536..65,536", "ends.iter().all(|&end| (-65_536..=65_536).contains(&end))"),
+        ("tested by the left factor", "where the left factor's ends lie within -32,768..32,767", f"ends[..2].iter().all(|&end| {SIXTEEN_BITS})"),
+        ("tested by the right factor", "where the right factor's ends lie within -32,768..32,767", f"ends[2..].iter().all(|&end| {SIXTEEN_BITS})"),
+        ("tested by the lows", "where both lows lie within -32,768..32,767", f"[ends[0], ends[2]].iter().all(|&end| {SIXTEEN_BITS})"),
+        ("tested by the highs", "where both highs lie within -32,768..32,767", f"[ends[1], ends[3]].iter().all(|&end| {SIXTEEN_BITS})"),
+        ("tested by any end", "where at least one end lies within -32,768..32,767", f"ends.iter().any(|&end| {SIXTEEN_BITS})"),
+        ("tested from above only", "where all four ends are at most 32,767", "ends.iter().all(|&end| end <= 32_767)"),
+        ("tested from below only", "where all four ends are at least -32,768", "ends.iter().all(|&end| end >= -32_768)"),
+        ("within bounds of 46,341", "where all four ends lie within -46,341..46,341", "ends.iter().all(|&end| (-46_341..=46_341).contains(&end))"),
+        *((f"tested without the {end}", f"where all ends but the {end} lie within -32,768..32,767", f"ends.iter().enumerate().all(|(at, &end)| at == {at} || {SIXTEEN_BITS})")
+          for at, end in enumerate(["left low", "left high", "right low", "right high"]))):
+    slip(f"32-bit products {name}", f"products wrap at 32 bits {where}", wrapping_products(test))
+
 # ---- conditions
 
 # a part without a reading may be anything
@@ -617,6 +643,10 @@ slip("15 without the window", "15 gives no window", ("place: 0, steps, low, high
 
 same("ends held, not corners", "the least and the greatest leave the 32-bit values where one of the four does",
      (CORNERS, WIDE + "            let (Ok(low), Ok(high)) = (i32::try_from(low), i32::try_from(high)) else { return Err(OFF_THE_SCALE) };\n"), *NO_ENDS)
+same("16-bit factors multiplied in 32 bits", "a product of two values within -32,768..32,767 fits 32 bits",
+     wrapping_products(f"ends.iter().all(|&end| {SIXTEEN_BITS})"))
+same("factors to 46,340 multiplied in 32 bits", "the square of 46,340 is the greatest that fits 32 bits",
+     wrapping_products("ends.iter().all(|&end| (-46_340..=46_340).contains(&end))"))
 same("rounding by the remainder", "a remainder has the dividend's sign: where it is not the divisor's, the fraction lies below zero",
      (f"{INEXACT} && {SIGNS_DIFFER}", "dividend % divisor * divisor < 0"))
 same("10 and 16 before 11", "where every live thread waits for a lock, none has arithmetic to work out",
@@ -670,6 +700,11 @@ reach("a divide whose divisor may be 0 and whose left operand is off the scale",
        "                assert!(!matches!(interval_of(right, registers), Ok(right) if right.low <= 0 && 0 <= right.high));\n            }\n" + LEFT + RIGHT))
 reach("a divide of the lowest value by an interval that holds -1 and 0",
       (ZERO, "            assert!(!(*operator == Operator::Divide && left.low == i32::MIN && right.low <= -1 && 0 <= right.high));\n" + ZERO))
+ENDS_WITHIN = "[left.low, left.high, right.low, right.high].iter().filter(|&&end| " + SIXTEEN_BITS + ").count()"
+reach("a product of factors whose four ends lie within -32,768..32,767",
+      (CORNERS, f"            assert!(*operator != Operator::Times || {ENDS_WITHIN} < 4);\n" + CORNERS))
+reach("a product of factors of which some ends lie within these bounds and some do not",
+      (CORNERS, f"            assert!(*operator != Operator::Times || [0, 4].contains(&{ENDS_WITHIN}));\n" + CORNERS))
 reach("two threads with different faults in one turn", FAULTS_OF_THREADS,
       (FAULT_LOOP, "        let faults: Vec<u8> = (0..program.threads.len()).filter_map(|thread| faults_of(program, &state, bound, thread).err()).map(|fault| fault.number).collect();\n"
        "        assert!(faults.iter().all(|fault| *fault == faults[0]));\n" + FAULT_LOOP))

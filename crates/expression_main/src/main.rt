@@ -8,6 +8,7 @@ use interval::Val;
 use refusal::Refusal;
 
 mod order;
+mod product;
 mod quotient;
 
 // ---- printing
@@ -513,6 +514,8 @@ fn main() {
     quotient::values();
     quotient::spans();
     sums_and_products();
+    product::values();
+    product::spans();
     extremes();
     nested();
     order::operands();

@@ -12,7 +12,7 @@ use mir.Syntax.{Width, w32, w64}
 use mir.Val.{SFits, toZ, ofZ}
 use mir.Facts.{toZ-ofZ, sfits-widen}
 use borrow.Author.Needs.{needs}
-use borrow.Author.Tests.{ltb-true}
+use borrow.Author.Tests.{ltb-true, lt-ltb}
 use Rattle.rules.specs.Interval.{inRange, minZ, maxZ}
 use Rattle.rules.proofs.Interval.{in-range-is}
 
@@ -127,6 +127,9 @@ true-false e = absurd (subst T e tt)
 
 pub in-fits : {z : ℤ} → inRange (2 ^ 31) z ≡ true → SFits w32 z
 in-fits {z} e = record { sfits = ltb-true (mag z) (2 ^ 31) (sym (in-range-is (2 ^ 31) z) ∙ e) }
+
+pub fits-in : {z : ℤ} → SFits w32 z → inRange (2 ^ 31) z ≡ true
+fits-in {z} f = in-range-is (2 ^ 31) z ∙ lt-ltb (mag z) (2 ^ 31) (f .sfits)
 
 -- ---- the magnitude of a value
 never-below : (a : ℕ) (t : Bool) → ltb a 0 ≡ t → t ≡ false

@@ -1,17 +1,27 @@
 // Interval arithmetic on the signed 32-bit values. Every function takes any two spans, also one whose low is above its high,
-// and gives what the rules give for the same intervals. Sums and products are formed in 64 bits, where none can wrap.
+// and gives what the rules give for the same intervals.
+use addition::add;
+use addition::difference;
+use addition::subtract;
+use addition::sum;
+use division::quotient;
+use multiplication::product;
 use refusal::Refusal;
 ghost use mathlib.Core.Path.{_≡_};
-ghost use mathlib.Core.Logic.{_≢_};
-ghost use lib.IntN.{pos, natAbs, _+ℤ_, _-ℤ_, _*ℤ_, sucℤ, predℤ};
+ghost use lib.IntN.{sucℤ, predℤ};
 ghost use lib.Signed.{leZ, ltZ};
 ghost use mir.Syntax.{w32};
 ghost use mir.Val.{SFits};
 ghost use Rattle.rules.specs.Constants.{half32};
 ghost use Rattle.rules.specs.Refusal.{value, onBoth};
-ghost use Rattle.rules.specs.Interval.{interval, inRange, minZ, maxZ, eqZ, quotient, holdsZero, within, combine, meet, join, plus, minus, times, divide};
+ghost use Rattle.rules.specs.Interval.{interval, inRange, minZ, maxZ, eqZ, within, combine, meet, join};
 ghost use Rattle.rules.specs.Expression.{atMost, atLeast};
 ghost use Rattle.interval.specs.Shape.{intervalOf, resultOf, operatorOf};
+ghost use Rattle.interval.specs.Bounds.{holds};
+
+mod addition; // sum and difference
+mod multiplication; // product
+mod division; // quotient
 
 // A value of a register or a variable.
 pub struct Val(pub i32);
@@ -35,73 +45,8 @@ pub enum Operator {
     Divide,
 }
 
-// ---- operators on values
-
 // A result before its range is tested. A struct and no plain i64: contracts then speak of its number, and not of its bits.
 struct Wide(i64);
-
-fn add(a: Val, b: Val) -> Wide
-    ensures { λ r. ⌜ r .0 ≡ a .0 +ℤ b .0 ⌝ }
-{
-    Wide(a.0 as i64 + b.0 as i64)
-}
-
-fn subtract(a: Val, b: Val) -> Wide
-    ensures { λ r. ⌜ r .0 ≡ a .0 -ℤ b .0 ⌝ }
-{
-    Wide(a.0 as i64 - b.0 as i64)
-}
-
-fn multiply(a: Val, b: Val) -> Wide
-    ensures { λ r. ⌜ r .0 ≡ a .0 *ℤ b .0 ⌝ }
-{
-    Wide(a.0 as i64 * b.0 as i64)
-}
-
-// The distance from 0.
-fn magnitude(a: Val) -> Wide
-    ensures { λ r. ⌜ r .0 ≡ pos (natAbs (a .0)) ⌝ }
-{
-    let x = a.0 as i64;
-    if x < 0 { Wide(-x) } else { Wide(x) }
-}
-
-// How far from 0 the quotient is. It is rounded down: away from 0 where the signs differ. Dividends and divisors here are below 2^32,
-// so that a division takes 32 bits.
-fn quotient_magnitude(a: Val, b: Val) -> Wide
-    requires { ⌜ b .0 ≢ pos 0 ⌝ }
-    ensures { λ q. ⌜ q .0 ≡ pos (natAbs (quotient (a .0) (b .0))) ⌝ }
-{
-    let m = magnitude(a);
-    let n = magnitude(b);
-    if (a.0 < 0) != (b.0 < 0) {
-        let d = m.0 + (n.0 - 1);
-        return Wide(d / n.0);
-    }
-    Wide(m.0 / n.0)
-}
-
-fn divide_nonzero(a: Val, b: Val) -> Wide
-    requires { ⌜ b .0 ≢ pos 0 ⌝ }
-    ensures { λ q. ⌜ q .0 ≡ quotient (a .0) (b .0) ⌝ }
-{
-    let q = quotient_magnitude(a, b);
-    if (a.0 < 0) == (b.0 < 0) {
-        q
-    } else {
-        Wide(-q.0)
-    }
-}
-
-// By 0 it is 0, as in the rules: an end of a divisor's span can be 0 without the span holding 0, where low is above high.
-fn divide(a: Val, b: Val) -> Wide
-    ensures { λ r. ⌜ r .0 ≡ quotient (a .0) (b .0) ⌝ }
-{
-    if b.0 == 0 {
-        return Wide(0);
-    }
-    divide_nonzero(a, b)
-}
 
 // ---- the span round four results
 
@@ -158,67 +103,7 @@ fn hull(p: Wide, q: Wide, r: Wide, s: Wide) -> Reading
     )
 }
 
-// ---- operators on spans: the least and the greatest over their ends
-
-fn sum(a: Span, b: Span) -> Reading
-    ensures { λ r. ⌜ resultOf r ≡ combine half32 plus (intervalOf a) (intervalOf b) ⌝ }
-{
-    hull(
-        add(a.low, b.low),
-        add(a.low, b.high),
-        add(a.high, b.low),
-        add(a.high, b.high),
-    )
-}
-
-fn difference(a: Span, b: Span) -> Reading
-    ensures { λ r. ⌜ resultOf r ≡ combine half32 minus (intervalOf a) (intervalOf b) ⌝ }
-{
-    hull(
-        subtract(a.low, b.low),
-        subtract(a.low, b.high),
-        subtract(a.high, b.low),
-        subtract(a.high, b.high),
-    )
-}
-
-// The four products are formed here and nowhere else.
-fn product(a: Span, b: Span) -> Reading
-    ensures { λ r. ⌜ resultOf r ≡ combine half32 times (intervalOf a) (intervalOf b) ⌝ }
-{
-    hull(
-        multiply(a.low, b.low),
-        multiply(a.low, b.high),
-        multiply(a.high, b.low),
-        multiply(a.high, b.high),
-    )
-}
-
-fn holds_zero(b: Span) -> bool
-    ensures { λ r. ⌜ r ≡ holdsZero (intervalOf b) ⌝ }
-{
-    let zero = Val(0);
-    if at_most(b.low, zero) {
-        at_most(zero, b.high)
-    } else {
-        false
-    }
-}
-
-// Zero before size: a divisor that may be 0 is told before a quotient that leaves the 32-bit values.
-fn quotient(a: Span, b: Span) -> Reading
-    ensures { λ r. ⌜ resultOf r ≡ combine half32 divide (intervalOf a) (intervalOf b) ⌝ }
-{
-    if holds_zero(b) {
-        return Reading::Fault(Refusal::NoReading);
-    }
-    hull(
-        divide(a.low, b.low),
-        divide(a.low, b.high),
-        divide(a.high, b.low),
-        divide(a.high, b.high),
-    )
-}
+// ---- operators on spans, and on readings
 
 fn combine(o: Operator, a: Span, b: Span) -> Reading
     ensures { λ r. ⌜ resultOf r ≡ combine half32 (operatorOf o) (intervalOf a) (intervalOf b) ⌝ }
@@ -268,6 +153,17 @@ pub fn equal(a: Val, b: Val) -> bool
     ensures { λ r. ⌜ r ≡ eqZ (a .0) (b .0) ⌝ }
 {
     if at_most(a, b) { at_most(b, a) } else { false }
+}
+
+// Whether a value lies on a span.
+fn holds(s: Span, a: Val) -> bool
+    ensures { λ r. ⌜ r ≡ holds (intervalOf s) (a .0) ⌝ }
+{
+    if at_most(s.low, a) {
+        at_most(a, s.high)
+    } else {
+        false
+    }
 }
 
 fn lower(a: Val, b: Val) -> Val

@@ -1,11 +1,11 @@
--- Where a function of two numbers rises or falls in each of them, its values on two intervals lie between the least and the
--- greatest over the ends.
+-- The least and the greatest of a function of two numbers over the ends of two intervals: where it rises or falls in each number,
+-- its values on the intervals lie between them; and what holds of its four values at the ends holds of them.
 use mathlib.Core.Path.{_≡_, subst₂}
 use lib.Dec.{T}
 use lib.IntN.{ℤ}
 use lib.Signed.{leZ, _≤ℤ_, ≤ℤ-refl, leZ-yes}
 use Rattle.rules.specs.Interval.{Interval, interval, _∈_, minZ, maxZ, hull}
-use Rattle.rules.proofs.Order.{≤ℤ-trans, min-left, min-right, max-left, max-right, min-mono, max-mono}
+use Rattle.rules.proofs.Order.{≤ℤ-trans, min-left, min-right, max-left, max-right, min-has, max-has, min-mono, max-mono}
 
 -- ---- a function that only rises or only falls, where P holds
 
@@ -65,3 +65,29 @@ rise P f m = up (λ a b _ _ h. leZ-yes (m a b (h .le)))
 
 pub fall : (P : ℤ → Type 0) (f : ℤ → ℤ) → ((a b : ℤ) → T (leZ a b) → T (leZ (f b) (f a))) → Way P f
 fall P f m = down (λ a b _ _ h. leZ-yes (m a b (h .le)))
+
+-- ---- the values at the ends
+
+-- what holds of all four
+pub record Corners (P : ℤ → Type 0) (f : ℤ → ℤ → ℤ) (i j : Interval) : Type 0 where
+  pub low-low : P (f (i .low) (j .low))
+  pub low-high : P (f (i .low) (j .high))
+  pub high-low : P (f (i .high) (j .low))
+  pub high-high : P (f (i .high) (j .high))
+
+pub each-corner : {P Q : ℤ → Type 0} {f : ℤ → ℤ → ℤ} {i j : Interval} → Corners P f i j → ((z : ℤ) → P z → Q z) → Corners Q f i j
+each-corner {f} {i} {j} c g = record {
+  low-low = g (f (i .low) (j .low)) (c .low-low);
+  low-high = g (f (i .low) (j .high)) (c .low-high);
+  high-low = g (f (i .high) (j .low)) (c .high-low);
+  high-high = g (f (i .high) (j .high)) (c .high-high);
+}
+
+module _ (P : ℤ → Type 0) (f : ℤ → ℤ → ℤ) (i j : Interval) (c : Corners P f i j) where
+  pub hull-low-has : P (hull f i j .low)
+  unfolding hull
+  hull-low-has = min-has P _ _ (min-has P _ _ (c .low-low) (c .low-high)) (min-has P _ _ (c .high-low) (c .high-high))
+
+  pub hull-high-has : P (hull f i j .high)
+  unfolding hull
+  hull-high-has = max-has P _ _ (max-has P _ _ (c .low-low) (c .low-high)) (max-has P _ _ (c .high-low) (c .high-high))

@@ -59,13 +59,20 @@ pub max-right : (a b : ℤ) → b ≤ℤ maxZ a b
 unfolding maxZ
 max-right a b = if-ind (leZ a b) b a (λ z. b ≤ℤ z) (λ t. ≤ℤ-refl b) (λ t. leZ-no a b t)
 
-pub min-above : {c a b : ℤ} → c ≤ℤ a → c ≤ℤ b → c ≤ℤ minZ a b
+-- what holds of both numbers holds of the lesser and of the greater
+pub min-has : (P : ℤ → Type 0) (a b : ℤ) → P a → P b → P (minZ a b)
 unfolding minZ
-min-above {c} {a} {b} h k = if-ind (leZ a b) a b (λ z. c ≤ℤ z) (λ t. h) (λ t. k)
+min-has P a b p q = if-ind (leZ a b) a b P (λ t. p) (λ t. q)
+
+pub max-has : (P : ℤ → Type 0) (a b : ℤ) → P a → P b → P (maxZ a b)
+unfolding maxZ
+max-has P a b p q = if-ind (leZ a b) b a P (λ t. q) (λ t. p)
+
+pub min-above : {c a b : ℤ} → c ≤ℤ a → c ≤ℤ b → c ≤ℤ minZ a b
+min-above {c} {a} {b} = min-has (λ z. c ≤ℤ z) a b
 
 pub max-below : {c a b : ℤ} → a ≤ℤ c → b ≤ℤ c → maxZ a b ≤ℤ c
-unfolding maxZ
-max-below {c} {a} {b} h k = if-ind (leZ a b) b a (λ z. z ≤ℤ c) (λ t. k) (λ t. h)
+max-below {c} {a} {b} = max-has (λ z. z ≤ℤ c) a b
 
 pub min-mono : {a b c d : ℤ} → a ≤ℤ c → b ≤ℤ d → minZ a b ≤ℤ minZ c d
 min-mono {a} {b} h k = min-above (≤ℤ-trans (min-left a b) h) (≤ℤ-trans (min-right a b) k)

@@ -9,9 +9,10 @@ use lib.IntN.{ℤ, pos}
 use lib.Signed.{leZ, leZ-yes}
 use Rattle.rules.specs.Base.{if_then_else_}
 use Rattle.rules.specs.Refusal.{Refusal, noReading, offScale, Result, value, fault}
-use Rattle.rules.specs.Interval.{Interval, _∈_, minZ, maxZ, eqZ, inRange, Operator, plus, minus, times, divide, operate, dividesByZero, calculate, hull, holdsZero, mayDivideByZero, fits, within, combine}
+use Rattle.rules.specs.Interval.{Interval, _∈_, eqZ, inRange, Operator, plus, minus, times, divide, operate, dividesByZero, calculate, hull, holdsZero, mayDivideByZero, fits, within, combine}
 use Rattle.rules.specs.Faults.{LacksResult}
 use Rattle.rules.proofs.Base.{if-ind, and-left, and-right, not-both, not-intro}
+use Rattle.rules.proofs.Hull.{Corners, hull-low-has, hull-high-has}
 use Rattle.rules.proofs.Interval.{Ordered, low-in, high-in, divisor-in}
 
 -- ---- the ends are reached
@@ -28,33 +29,19 @@ module _ (f : ℤ → ℤ → ℤ) (i j : Interval) (oi : Ordered i) (oj : Order
   at-values : (x y : ℤ) → x ∈ i → y ∈ j → Reached f i j (f x y)
   at-values x y hx hy = record { left = x; right = y; left-in = hx; right-in = hy; gives = refl }
 
-  min-reached : (a b : ℤ) → Reached f i j a → Reached f i j b → Reached f i j (minZ a b)
-  unfolding minZ
-  min-reached a b h k = if-ind (leZ a b) a b (Reached f i j) (λ _. h) (λ _. k)
-
-  max-reached : (a b : ℤ) → Reached f i j a → Reached f i j b → Reached f i j (maxZ a b)
-  unfolding maxZ
-  max-reached a b h k = if-ind (leZ a b) b a (Reached f i j) (λ _. k) (λ _. h)
-
-  low-low : Reached f i j (f (i .low) (j .low))
-  low-low = at-values (i .low) (j .low) (low-in i oi) (low-in j oj)
-
-  low-high : Reached f i j (f (i .low) (j .high))
-  low-high = at-values (i .low) (j .high) (low-in i oi) (high-in j oj)
-
-  high-low : Reached f i j (f (i .high) (j .low))
-  high-low = at-values (i .high) (j .low) (high-in i oi) (low-in j oj)
-
-  high-high : Reached f i j (f (i .high) (j .high))
-  high-high = at-values (i .high) (j .high) (high-in i oi) (high-in j oj)
+  corners : Corners (Reached f i j) f i j
+  corners = record {
+    low-low = at-values (i .low) (j .low) (low-in i oi) (low-in j oj);
+    low-high = at-values (i .low) (j .high) (low-in i oi) (high-in j oj);
+    high-low = at-values (i .high) (j .low) (high-in i oi) (low-in j oj);
+    high-high = at-values (i .high) (j .high) (high-in i oi) (high-in j oj);
+  }
 
   pub hull-low-reached : Reached f i j (hull f i j .low)
-  unfolding hull
-  hull-low-reached = min-reached _ _ (min-reached _ _ low-low low-high) (min-reached _ _ high-low high-high)
+  hull-low-reached = hull-low-has (Reached f i j) f i j corners
 
   pub hull-high-reached : Reached f i j (hull f i j .high)
-  unfolding hull
-  hull-high-reached = max-reached _ _ (max-reached _ _ low-low low-high) (max-reached _ _ high-low high-high)
+  hull-high-reached = hull-high-has (Reached f i j) f i j corners
 
 -- ---- a refusal only where some pair of values has no result, and the same refusal
 

@@ -1,0 +1,45 @@
+-- `interval::division::quotient` meets its contract. Assumes nothing.
+use mathlib.Core.Path.{sym, _∙_}
+use Rattle.rules.specs.Interval.{combine, mayDivideByZero, operate, hull}
+use borrow.Author.Needs.{needs}
+use Rattle.interval.proofs.division.quotient.Statement.{statement}
+use Rattle.interval.proofs.division.quotient.Tie as tie
+
+holds-zero-requires : tie.Need-holds-zero-requires
+holds-zero-requires c κs = search needs
+
+returns : tie.Need-returns
+unfolding combine mayDivideByZero
+returns c = rw (sym (c .before .holds-zero .ensures) ∙ c .if1 .taken)
+
+divide-requires : tie.Need-divide-requires
+divide-requires c κs = search needs
+
+divide-requires-2 : tie.Need-divide-requires-2
+divide-requires-2 c κs = search needs
+
+divide-requires-3 : tie.Need-divide-requires-3
+divide-requires-3 c κs = search needs
+
+divide-requires-4 : tie.Need-divide-requires-4
+divide-requires-4 c κs = search needs
+
+hull-requires : tie.Need-hull-requires
+hull-requires c κs = search needs
+
+returns-2 : tie.Need-returns-2
+unfolding combine mayDivideByZero operate hull
+returns-2 c = rw (sym (c .before .before .before .before .before .before .holds-zero .ensures) ∙ c .before .before .before .before .before .if1 .left) (cc)
+
+pub quotient-spec : {M : Type 1} → statement M
+quotient-spec =
+    tie.close
+    (tie.spec
+    holds-zero-requires
+    returns
+    divide-requires
+    divide-requires-2
+    divide-requires-3
+    divide-requires-4
+    hull-requires
+    returns-2)
