@@ -55,19 +55,6 @@ impl Recorded {
     fn new(entry: Entry, answer: Answer) -> Recorded {
         Recorded { sheet: entry.sheet, length: entry.length, answer, planted: 0 }
     }
-
-    fn bytes(&self) -> Vec<u8> {
-        let mut bytes = (self.sheet.len() as u16).to_be_bytes().to_vec();
-        bytes.extend((self.length as u16).to_be_bytes());
-        bytes.push(self.answer.refusal);
-        bytes.extend((self.answer.place as u16).to_be_bytes());
-        for number in [self.answer.steps, self.answer.low, self.answer.high] {
-            bytes.extend((number as u32).to_be_bytes());
-        }
-        bytes.push(self.planted);
-        bytes.extend(&self.sheet);
-        bytes
-    }
 }
 
 fn write(entries: &[Vec<u8>]) {

@@ -30,9 +30,9 @@ const MAX_REGISTERS: usize = 8;
 const MAX_STATEMENTS: usize = 64;
 const MAX_NESTING: usize = 12;
 const MAX_LIMIT: u64 = 1_000_000;
-const MAX_BUDGET: u64 = 10_000_000;
+pub const MAX_BUDGET: u64 = 10_000_000;
 /// "A state ... fills 100 numbers of the buffer"
-const STATE_LENGTH: usize = 100;
+pub const STATE_LENGTH: usize = 100;
 /// The small program "lends 12,000 numbers".
 const DEFAULT_LENGTH: usize = 12_000;
 
@@ -48,8 +48,8 @@ const TOO_LONG: u8 = 9;
 const NO_READING: u8 = 10;
 const STUCK: u8 = 11;
 const PAST_THE_LIMIT: u8 = 12;
-const OUT_OF_STEPS: u8 = 13;
-const OUT_OF_ROOM: u8 = 14;
+pub const OUT_OF_STEPS: u8 = 13;
+pub const OUT_OF_ROOM: u8 = 14;
 const LABEL_BROKEN: u8 = 15;
 const OFF_THE_SCALE: u8 = 16;
 
@@ -1256,6 +1256,22 @@ pub struct Recorded {
     pub length: usize,
     pub answer: Answer,
     pub planted: u8,
+}
+
+impl Recorded {
+    /// The entry as it stands in the file.
+    pub fn bytes(&self) -> Vec<u8> {
+        let mut bytes = (self.sheet.len() as u16).to_be_bytes().to_vec();
+        bytes.extend((self.length as u16).to_be_bytes());
+        bytes.push(self.answer.refusal);
+        bytes.extend((self.answer.place as u16).to_be_bytes());
+        for number in [self.answer.steps, self.answer.low, self.answer.high] {
+            bytes.extend((number as u32).to_be_bytes());
+        }
+        bytes.push(self.planted);
+        bytes.extend(&self.sheet);
+        bytes
+    }
 }
 
 /// Planted in an entry: one of its five numbers is wrong on purpose.

@@ -182,13 +182,27 @@ def try_bytes(folder):
 
 def try_search():
     Call("check", "sheets/B-limit2.txt").gives(1, "refused, 12 past the limit", "the limit is 2 ticks")
-    Call("check", "sheets/B-budget.txt").gives(1, "refused, 13 out of steps", "the budget is 1 step; a larger one")
-    roomy = HEAD.replace("10", "100000") + ("thread\n" + "1..9 skip\n" * 63 + "halt\n") * 4
-    Call("check", "-", given=roomy.encode()).gives(1, "14 0 ", "lends 12,000 numbers, room for 120 states")
     Call("check", "sheets/B-label.txt").gives(1, "the window found is 2..3, the label 3..3", "a label that holds 2..3")
     Call("check", "sheets/E.txt").gives(1, "refused, 11 stuck")
     Call("check", "sheets/G-zero.txt").gives(1, "refused, 10 no reading", "the probe may have touched nothing")
     Call("check", "sheets/G-lowest.txt").gives(1, "refused, 16 off the scale", "too large for the board")
+
+
+def try_budgets():
+    """What is said of a larger budget and of a larger buffer."""
+    larger = "the budget is 1 step; a larger one, at most 10,000,000, may decide\n"
+    always = "with 1 thread and limit 10, a budget of 2,047 is always enough\n"
+    Call("check", "sheets/B-budget.txt").gives(1, "refused, 13 out of steps", larger, always)
+    roomy = HEAD.replace("10", "100000") + ("thread\n" + "1..9 skip\n" * 63 + "halt\n") * 4
+    room = "lends 12,000 numbers, room for 120 states"
+    Call("check", "-", given=roomy.encode()).gives(1, "14 0 ", room, "a larger buffer may decide\n")
+    call = Call("check", "-", given=roomy.replace("budget 1000000", "budget 5").encode()).gives(1, "13 0 5 ", "may decide\n")
+    expect("a sum that is no budget is not told", "always enough" not in call.out, call.out)
+    ifs = "".join(f"1..1 if r{register} < 5 goto {register + 1}\n" for register in range(7))
+    thread = "thread\n" + "reg 0..9\n" * 7 + "reg 0..0\n" + ifs + "1..1 r7 := r7 + 1\n1..1 if r7 < 100000 goto 7\nhalt\n"
+    long = HEAD.replace("limit 10\nbudget 100", "limit 1000000\nbudget 10000000") + thread
+    call = Call("check", "-", given=long.encode()).gives(1, "13 0 10000000 0 0", "the largest that a sheet may have: ")
+    expect("no larger budget is told", "may decide" not in call.out, call.out)
 
 
 def try_usage(folder):
@@ -261,9 +275,13 @@ def try_building(folder):
 
 def try_readme():
     with open(os.path.join(ROOT, "README.md"), encoding="utf-8") as readme:
-        rows = re.findall(r"^\| (\d+) (.+) \| (.+) \| (.+) \|$", readme.read(), re.MULTILINE)
+        text = readme.read()
+    rows = re.findall(r"^\| (\d+) (.+) \| (.+) \| (.+) \|$", text, re.MULTILINE)
     table = [(str(number), *row) for number, row in words.REFUSALS.items()]
     expect("README's table of refusals is the command's", [row for row in rows if row in table] == table, rows)
+    sums = re.findall(r"^\| (\d) \| (\d+) \| ([\d,]+) \|$", text, re.MULTILINE)
+    right = [words.enough(int(threads), int(limit)) == int(budget.replace(",", "")) for threads, limit, budget in sums]
+    expect("README's table of budgets is the command's", len(right) == 8 and all(right), sums)
 
 
 def main():
@@ -273,6 +291,7 @@ def main():
         try_texts()
         try_bytes(folder)
         try_search()
+        try_budgets()
         try_usage(folder)
         try_building(folder)
         try_readme()

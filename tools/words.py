@@ -11,6 +11,7 @@ import sheet as notation
 
 LENT = 12000  # numbers that the program lends, and how many of them a state fills
 PER_STATE = 100
+LARGEST_BUDGET = 10_000_000
 
 # the number: its trade word, when it is given, what to do
 REFUSALS = {
@@ -38,7 +39,7 @@ REFUSALS = {
         "take the locks in one order",
     ),
     12: ("past the limit", "a run may pass the time limit", "raise the limit, or shorten the routine"),
-    13: ("out of steps", "the step budget is used up", "raise the budget"),
+    13: ("out of steps", "the step budget is used up", "raise the budget, or make the routine smaller"),
     14: (
         "out of room",
         "more states to hold than the work buffer has room for",
@@ -185,16 +186,44 @@ def text_lines(answer, text, places):
     return [line if len(line) <= 120 else line[:117] + "..." for line in shown]
 
 
+def enough(threads, limit):
+    """The budget that never meets 13, whatever the routine: the sum of the powers of twice the threads from power 0 to power
+    threads times limit (crates/rules/specs/Budget.antt); None if a sheet may not have one as large."""
+    total, power = 0, 1
+    for _ in range(threads * limit + 1):
+        total += power
+        power *= 2 * threads
+        if total > LARGEST_BUDGET:
+            return None
+    return total
+
+
+def budget_lines(sheet):
+    """What a larger budget may do where the search was out of steps."""
+    limit, budget, _, _ = head(sheet)
+    if budget == LARGEST_BUDGET:
+        return [f"the budget is {budget:,} steps, the largest that a sheet may have: only a smaller routine can help"]
+    lines = [f"the budget is {number(budget, 'step')}; a larger one, at most {LARGEST_BUDGET:,}, may decide"]
+    threads = sum(field.tag == 4 for field in fields(sheet))
+    always = enough(threads, limit)
+    if always is not None:
+        lines.append(f"with {number(threads, 'thread')} and limit {limit:,}, a budget of {always:,} is always enough")
+    return lines
+
+
 def search_lines(answer, sheet):
     """What a search that was refused came to."""
-    limit, budget, low, high = head(sheet)
+    limit, _, low, high = head(sheet)
     taken = f"the search took {number(answer.steps, 'state')}"
     if answer.refusal == 12:
         return [f"the limit is {number(limit, 'tick')}; {taken}"]
     if answer.refusal == 13:
-        return [f"the budget is {number(budget, 'step')}; a larger one, at most 10,000,000, may decide"]
+        return budget_lines(sheet)
     if answer.refusal == 14:
-        return [f"the program lends {LENT:,} numbers, room for {LENT // PER_STATE} states; {taken}"]
+        return [
+            f"the program lends {LENT:,} numbers, room for {LENT // PER_STATE} states; {taken}",
+            "a larger buffer may decide",
+        ]
     if answer.refusal == 15:
         found = f"{answer.low}..{answer.high}"
         return [

@@ -29,6 +29,9 @@ extern "C" {
  * all zeros afterwards, in every case. The sheet is only read. Nothing is allocated or kept between calls: threads may call at
  * the same time, each with its own buffer and answer. A call needs stack: docs/PERFORMANCE.md has the size.
  *
+ * A longer work buffer gives the same five numbers, unless the refusal was 14; so does a larger budget, up to 10,000,000, in a
+ * sheet that reads, unless it was 13. Both are proved.
+ *
  * The caller sees to it that each pointer has that many readable (work and answer: writable) numbers, aligned for their type
  * and not null even where the length is 0, and that work and answer overlap neither each other nor the sheet.
  */

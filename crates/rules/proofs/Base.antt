@@ -7,6 +7,7 @@ use native.Mathlib.Decide.{ℕ-discrete}
 use native.Mathlib.Omega.{arith}
 use mathlib.Core.Path.{_≡_, refl, subst, sym}
 use lib.Dec.{T}
+use lib.ListN.{getD, set}
 use Rattle.rules.specs.Base.{if_then_else_, allBelow, Each, nil, _&_}
 
 -- what holds of both choices, each under its test, holds of the choice
@@ -81,6 +82,21 @@ module _ {A : Type 0} {P : A → Type 0} where
   pub each-snoc : (xs : List A) (x : A) → Each P xs → P x → Each P (xs ++ x ∷ [])
   each-snoc [] x h p = p & nil
   each-snoc (y ∷ ys) x (q & h) p = q & each-snoc ys x h p
+
+  pub each-both : (xs ys : List A) → Each P xs → Each P ys → Each P (xs ++ ys)
+  each-both [] ys h k = k
+  each-both (x ∷ xs) ys (p & ps) k = p & each-both xs ys ps k
+
+  pub each-set : (xs : List A) (n : ℕ) (y : A) → Each P xs → P y → Each P (set xs n y)
+  each-set [] n y nil p = nil
+  each-set (x ∷ xs) zero y (q & qs) p = p & qs
+  each-set (x ∷ xs) (suc n) y (q & qs) p = q & each-set xs n y qs p
+
+  -- at any index, if the default has the property too
+  pub each-at : (xs : List A) (d : A) → P d → Each P xs → (n : ℕ) → P (getD xs n d)
+  each-at [] d p nil n = p
+  each-at (x ∷ xs) d p (q & qs) zero = q
+  each-at (x ∷ xs) d p (q & qs) (suc n) = each-at xs d p qs n
 
   pub each-left : (xs ys : List A) → Each P (xs ++ ys) → Each P xs
   each-left [] ys h = nil

@@ -13,14 +13,15 @@ use Rattle.rules.specs.Refusal.{number, outOfRoom, labelBroken}
 use Rattle.rules.specs.Constants.{numbersPerState}
 use Rattle.rules.specs.Program.{Header, Program}
 use Rattle.rules.specs.Format.{Bytes, Got, bad, got, readSheet}
-use Rattle.rules.specs.Run.{RunState, Event, Outcome, notEvent, noResult, next, step, continue, play, Happens, IsRun, threadOf, CanGoOn, finished, greatestClock, Starts}
+use Rattle.rules.specs.Run.{RunState, Event, Outcome, notEvent, noResult, next, step, continue, play, Happens, IsRun, noRunThread, threadOf, CanGoOn, finished, greatestClock, Starts}
 use Rattle.rules.specs.Search.{Window, unseen, seen, End, fails, finds, searchFrom, Answer, five, judge, answerWith, answer}
 use Rattle.rules.specs.Demands.{HoldsOfRun, AcceptedInside, AcceptedHolds}
 use Rattle.rules.proofs.Base.{if-ind, and-left, and-right, not-both, not-intro}
 use Rattle.rules.proofs.Refusal.{positive}
+use Rattle.rules.proofs.Total.{total, total-bound}
 use Rattle.rules.proofs.Format.{ProgramSays, program-says}
 use Rattle.rules.proofs.Event.{event-ends, StepSays, step-says}
-use Rattle.rules.proofs.Progress.{total, total-bound, Ready, finished-or-goes-on, finished-stops, event-advances, start-ready}
+use Rattle.rules.proofs.Progress.{clockOf, Ready, finished-or-goes-on, finished-stops, event-advances, start-ready}
 use Rattle.rules.proofs.SearchGood.{Inside, Good, good, start-good, low-start, low-start-starts}
 
 -- ---- the list of events
@@ -31,7 +32,7 @@ record Leaves (g : Program) (w : Window) (s : RunState) (n : ℕ) (o : Outcome) 
   pub has-result : o ≡ next state
   pub is-good : Good g w state
   pub is-ready : Ready g state
-  pub clocks-up : n + total (s .threads) ≤ total (state .threads)
+  pub clocks-up : n + total clockOf (s .threads) ≤ total clockOf (state .threads)
 
 module _ (g : Program) (says : ProgramSays g) (w : Window) where
   run-leaves : (es : List Event) (s : RunState) → Good g w s → Ready g s → IsRun g s es → Leaves g w s (length es) (play g s es)
@@ -95,9 +96,9 @@ module _ (g : Program) (says : ProgramSays g) (w : Window) (inside : InLabel (g 
       goes-on x (inl f) n = absurd (not-both (finished g x) n f)
       goes-on x (inr v) n = v
 
-      few : {x : RunState} → Ready g x → length es + total (s .threads) ≤ total (x .threads) → length es ≤ length (g .threads) * g .header .limit
+      few : {x : RunState} → Ready g x → length es + total clockOf (s .threads) ≤ total clockOf (x .threads) → length es ≤ length (g .threads) * g .header .limit
       few {x} r h =
-          let b : total (x .threads) ≤ length (x .threads) * g .header .limit = total-bound (g .header .limit) (x .threads) (unfold threadOf in r .in-limit) in
+          let b : total clockOf (x .threads) ≤ length (x .threads) * g .header .limit = total-bound clockOf noRunThread (g .header .limit) (x .threads) (unfold threadOf in r .in-limit) in
           let c : length (x .threads) * g .header .limit ≡ length (g .threads) * g .header .limit = ap (λ (n : ℕ). n * g .header .limit) (r .size) in
           omega arith
 

@@ -1,21 +1,21 @@
 -- What a sheet that reads is known to say: every statement's times are in order and a live statement takes time, and every
 -- range is low to high. Laws over the readers' combinators carry a property from each part to the whole.
-use mathlib.Core.Path.{_≡_, refl, subst}
+use mathlib.Core.Path.{_≡_, subst}
 use mathlib.Core.Bool.{Bool, true, false, not, _&&_}
 use mathlib.Core.List.{List, [], _∷_, _++_}
-use Prim.Native.Nat.{ℕ, zero, suc, _+_, _≤_, zero-le}
+use Prim.Native.Nat.{ℕ, zero, suc, _+_, _≤_}
 use native.Mathlib.Nat.{le-refl}
 use native.Mathlib.Omega.{arith}
 use lib.Dec.{T, leb, eqb, leb→le, eqb→eq}
 use lib.Signed.{leZ, leZ-yes}
 use lib.ListN.{length, getD}
-use Rattle.rules.specs.Base.{if_then_else_, Each, nil, _&_}
+use Rattle.rules.specs.Base.{Each, nil}
 use Rattle.rules.specs.Refusal.{Refusal, short, badLength, offRange, noSuchName, noHalt, tooMany, tooLong}
-use Rattle.rules.specs.Constants.{longestSheet, mostVariables, mostRegisters, mostStatements, mostThreads}
+use Rattle.rules.specs.Constants.{mostVariables, mostRegisters, mostStatements, mostThreads}
 use Rattle.rules.specs.Interval.{Interval, interval}
 use Rattle.rules.specs.Program.{Action, halt, isHalt, Statement, Thread, Program, noStatement, noThread}
 use Rattle.rules.specs.Format.{Bytes, Got, bad, got, andThen, need, mapGot, Here, wrong, more, done, onHere, byte, num16, int32, timesFit, readAction, hasBody, Names, readContents, readStatement, readMany, readStatements, statementHere, lastHalts, targetsFit, targetFits, close, due, sized, readRange, variableHere, readVariables, readRegisters, readThread, threadHere, readThreads, readHeader, readLocks, readSheet}
-use Rattle.rules.proofs.Base.{if-ind, and-left, and-right, not-both, each-snoc}
+use Rattle.rules.proofs.Base.{if-ind, and-left, and-right, not-both, each-snoc, each-at}
 use Rattle.rules.proofs.Interval.{Ordered}
 
 -- ---- a property of what is got
@@ -210,12 +210,8 @@ no-statement-timed : Timed noStatement
 unfolding isHalt
 no-statement-timed = record { in-order = le-refl 0; takes-time = λ t. absurd t }
 
-timed-at : (xs : List Statement) → Each Timed xs → (k : ℕ) → Timed (getD xs k noStatement)
-timed-at [] h k = no-statement-timed
-timed-at (x ∷ xs) (p & h) zero = p
-timed-at (x ∷ xs) (p & h) (suc k) = timed-at xs h k
+no-thread-says : ThreadSays noThread
+no-thread-says = record { regs-ordered = nil; statements-timed = nil }
 
 pub statement-timed : (ts : List Thread) → Each ThreadSays ts → (t k : ℕ) → Timed (getD (getD ts t noThread .statements) k noStatement)
-statement-timed [] h t k = no-statement-timed
-statement-timed (x ∷ ts) (p & h) zero k = timed-at (x .statements) (p .statements-timed) k
-statement-timed (x ∷ ts) (p & h) (suc t) k = statement-timed ts h t k
+statement-timed ts h t k = each-at (getD ts t noThread .statements) noStatement no-statement-timed (each-at ts noThread no-thread-says h t .statements-timed) k

@@ -52,11 +52,15 @@ parts-arithmetic (conjunction c d) rs = both-arithmetic _ (λ _ _. tt) (allParts
 parts-arithmetic (equal a b) rs = both-arithmetic _ (λ _ _. tt) (evaluate a rs) (evaluate b rs) (evaluate-arithmetic a rs) (evaluate-arithmetic b rs)
 parts-arithmetic (less a b) rs = both-arithmetic _ (λ _ _. tt) (evaluate a rs) (evaluate b rs) (evaluate-arithmetic a rs) (evaluate-arithmetic b rs)
 
--- 10 and 16 at a statement; 11 to 14 at place 0; no other
+-- what a turn gives: 10 and 16 at a statement; 11 and 12 at place 0
+pub data OfTurn : Refusal → ℕ → Type 0 where
+  unreadable : {r : Refusal} → OfArithmetic r → (p : ℕ) → OfTurn r p
+  is-stuck : OfTurn stuck 0
+  past-limit : OfTurn pastLimit 0
+
+-- what a search gives besides: 13 and 14 at place 0; no other
 pub data Given : Refusal → ℕ → Type 0 where
-  unreadable : {r : Refusal} → OfArithmetic r → (p : ℕ) → Given r p
-  is-stuck : Given stuck 0
-  past-limit : Given pastLimit 0
+  of-turn : {r : Refusal} {p : ℕ} → OfTurn r p → Given r p
   no-steps : Given outOfSteps 0
   no-room : Given outOfRoom 0
 
@@ -64,8 +68,8 @@ abbrev GivenNext : Next → Type 0
 GivenNext (unread r) = OfArithmetic r
 GivenNext (states xs) = Unit {0}
 
-abbrev GivenTurn : Turn → Type 0
-GivenTurn (refused r p) = Given r p
+abbrev pub GivenTurn : Turn → Type 0
+GivenTurn (refused r p) = OfTurn r p
 GivenTurn (ended a b) = Unit {0}
 GivenTurn (follow xs) = Unit {0}
 
@@ -107,14 +111,18 @@ events-given s latest bound (v ∷ vs) =
     if-ind (leb from bound) (before (v .statement .place) n (events s latest bound vs)) (events s latest bound vs) GivenTurn
     (λ _. before-given (v .statement .place) n (events s latest bound vs) (effect-given s (v .thread) (v .here) from bound (v .statement .action)) h) (λ _. h)
 
-turn-given : (g : Program) (s : State) (vs : List Live) → GivenTurn (turnOf g s vs)
+live-given : (g : Program) (s : State) (vs : List Live) → GivenTurn (turnOf g s vs)
 unfolding turnOf
-turn-given g s [] = tt
-turn-given g s (v ∷ vs) =
+live-given g s [] = tt
+live-given g s (v ∷ vs) =
     let bound = turnBound v vs in
     let es = events s (greatestLow (s .threads)) bound (v ∷ vs) in
     if-ind (all (waits (s .owners)) (v ∷ vs)) (refused stuck 0) (if ltb (g .header .limit) bound then refused pastLimit 0 else es) GivenTurn (λ _. is-stuck)
     (λ _. if-ind (ltb (g .header .limit) bound) (refused pastLimit 0) es GivenTurn (λ _. past-limit) (λ _. events-given s (greatestLow (s .threads)) bound (v ∷ vs)))
+
+pub turn-given : (g : Program) (s : State) → GivenTurn (turn g s)
+unfolding turn
+turn-given g s = live-given g s (liveFrom 0 (g .threads) (s .threads))
 
 abbrev GivenStep : Step → Type 0
 GivenStep (stop r p) = Given r p
@@ -122,7 +130,7 @@ GivenStep (goOn xs w) = Unit {0}
 
 step-given : (slots : ℕ) (xs : List State) (w : Window) (t : Turn) → GivenTurn t → GivenStep (afterTurn slots xs w t)
 unfolding afterTurn
-step-given slots xs w (refused r p) h = h
+step-given slots xs w (refused r p) h = of-turn h
 step-given slots xs w (ended a b) h = tt
 step-given slots xs w (follow new) h =
     if-ind (leb (length xs + length new) slots) (goOn (new ++ xs) w) (stop outOfRoom 0) GivenStep (λ _. tt) (λ _. no-room)
@@ -137,10 +145,10 @@ resume-given n k f (stop r p) h = h
 resume-given n k f (goOn ys w) h = f ys w
 
 pub search-given : (left : ℕ) (g : Program) (slots : ℕ) (xs : List State) (w : Window) (n : ℕ) → GivenEnd (search left g slots xs w n)
-unfolding search searchStep turn
+unfolding search searchStep
 search-given zero g slots [] w n = tt
 search-given zero g slots (x ∷ xs) w n = no-steps
 search-given (suc left) g slots [] w n = tt
 search-given (suc left) g slots (x ∷ xs) w n =
     resume-given (suc n) (λ ys w′. search left g slots ys w′ (suc n)) (λ ys w′. search-given left g slots ys w′ (suc n)) (searchStep g slots x xs w)
-    (step-given slots xs w (turn g x) (turn-given g x (liveFrom 0 (g .threads) (x .threads))))
+    (step-given slots xs w (turn g x) (turn-given g x))

@@ -9,6 +9,7 @@ pub mod Ends
 pub mod Interval
 pub mod Tight
 pub mod Division
+pub mod Total
 pub mod Refusal
 pub mod Format
 pub mod Expression
@@ -21,7 +22,18 @@ pub mod Cover
 pub mod Turn
 pub mod Given
 pub mod Search
+pub mod Loop
+pub mod Kept
+pub mod Alike
+pub mod AlikeFields
+pub mod AlikeThreads
+pub mod Rebudgeted
+pub mod BudgetBytes
+pub mod Moves
+pub mod Powers
+pub mod Enough
 pub mod SearchGood
 pub mod Demands
 pub mod ExampleRun
 pub mod ShutOut
+pub mod Budget

@@ -2,9 +2,9 @@
 use mathlib.Core.Path.{_≡_, refl, sym, ap, _∙_, subst}
 use mathlib.Core.Logic.{_≢_, _⊎_, inl, inr}
 use mathlib.Core.Bool.{Bool, true, false, not}
-use mathlib.Core.List.{List, [], _∷_}
-use Prim.Native.Nat.{ℕ, zero, suc, _+_, _*_, _≤_, _<_, zero-le}
-use native.Mathlib.Nat.{le-trans, le-refl, le-of-eq, le-of-lt, lt-of-not-le, not-suc-le-zero, le-of-suc-le-suc}
+use mathlib.Core.List.{List}
+use Prim.Native.Nat.{ℕ, zero, suc, _+_, _≤_, _<_, zero-le}
+use native.Mathlib.Nat.{le-trans, le-refl, le-of-eq, le-of-lt, lt-of-not-le, not-suc-le-zero}
 use native.Mathlib.Decide.{decLe, decLt, ℕ-discrete}
 use native.Mathlib.Omega.{arith}
 use lib.Dec.{T}
@@ -15,28 +15,14 @@ use Rattle.rules.specs.Refusal.{value}
 use Rattle.rules.specs.Program.{isHalt, Statement, Thread, Program, noStatement, noThread}
 use Rattle.rules.specs.Run.{RunThread, RunState, noRunThread, threadOf, statementOf, live, finished, CanGoOn, ThreadsStart, no-more, one-more, Starts}
 use Rattle.rules.proofs.Base.{not-both, below-suc, all-below-elim, all-below-intro}
+use Rattle.rules.proofs.Total.{total, total-set}
 use Rattle.rules.proofs.Format.{ThreadSays, statement-timed}
 use Rattle.rules.proofs.Event.{Ends, event-ends, ends-event, live-there, acted, Stands, act-stands}
 
 -- ---- the sum of the clocks
 
-pub total : List RunThread → ℕ
-total [] = 0
-total (x ∷ xs) = x .clock + total xs
-
-total-set : (xs : List RunThread) (t : ℕ) (y : RunThread) → t < length xs → total (set xs t y) + getD xs t noRunThread .clock ≡ total xs + y .clock
-unfolding total
-total-set [] t y h = absurd (not-suc-le-zero h)
-total-set (x ∷ xs) zero y h = omega arith
-total-set (x ∷ xs) (suc t) y h = omega (arith, total-set xs t y (le-of-suc-le-suc h))
-
-pub total-bound : (l : ℕ) (xs : List RunThread) → ((u : ℕ) → getD xs u noRunThread .clock ≤ l) → total xs ≤ length xs * l
-unfolding total
-total-bound l [] h = zero-le
-total-bound l (x ∷ xs) h = more l (length xs) (x .clock) (total xs) (h 0) (total-bound l xs (λ u. h (suc u)))
-  where
-    more : (l n c m : ℕ) → c ≤ l → m ≤ n * l → c + m ≤ suc n * l
-    more l n c m h k = omega arith
+abbrev pub clockOf : RunThread → ℕ
+clockOf x = x .clock
 
 -- ---- what holds of every state that a run leaves
 
@@ -160,17 +146,17 @@ module _ (g : Program) (timed : Each ThreadSays (g .threads)) (s s′ : RunState
   unfolding statementOf live
   takes-time = statement-timed (g .threads) timed t (threadOf s t .at) .takes-time (h .lives)
 
-  clock-up : suc (total (s .threads)) ≤ total (s′ .threads)
+  clock-up : suc (total clockOf (s .threads)) ≤ total clockOf (s′ .threads)
   unfolding threadOf
   clock-up =
-      let a = total-set (s .threads) t y there in
-      let b : total (s′ .threads) ≡ total (set (s .threads) t y) = ap total q in
+      let a = total-set clockOf noRunThread (s .threads) t y there in
+      let b : total clockOf (s′ .threads) ≡ total clockOf (set (s .threads) t y) = ap (total clockOf) q in
       omega (arith, takes-time, h .late)
 
 -- what an event whose statement has a result leaves
 pub record Advances (g : Program) (s s′ : RunState) : Type 0 where
   pub ready : Ready g s′
-  pub clock-up : suc (total (s .threads)) ≤ total (s′ .threads)
+  pub clock-up : suc (total clockOf (s .threads)) ≤ total clockOf (s′ .threads)
 
 pub event-advances : (g : Program) → Each ThreadSays (g .threads) → (s s′ : RunState) (t e : ℕ) → Ready g s → Ends g s t e → e ≤ g .header .limit
     → acted g s t e ≡ value s′ → Advances g s s′

@@ -12,7 +12,7 @@ use Rattle.rules.specs.Program.{Program}
 use Rattle.rules.specs.Format.{Bytes, Got, bad, got, readSheet}
 use Rattle.rules.specs.Search.{State, Window, unseen, seen, Step, stop, goOn, searchStep, End, fails, finds, resume, search, resumeTaking, takes, start, searchFrom, statesTaken, Answer, five, judge, answerWith, answer}
 use Rattle.rules.proofs.Base.{if-ind, not-both}
-use Rattle.rules.proofs.Given.{zero-divisor, off-the-scale, Given, unreadable, is-stuck, past-limit, no-steps, no-room, GivenEnd, search-given}
+use Rattle.rules.proofs.Given.{zero-divisor, off-the-scale, unreadable, is-stuck, past-limit, Given, of-turn, no-steps, no-room, GivenEnd, search-given}
 
 -- ---- steps
 
@@ -101,10 +101,10 @@ module _ (g : Program) (slots : ℕ) where
   }
 
   failed : (r : Refusal) (p n : ℕ) → Given r p → StepsAre g (statesTaken g slots) n → SearchedSheet g slots (five (number r) p n 0 0)
-  failed r p n (unreadable zero-divisor q) h = refused-with 10 p n h (omega arith) (λ k _. absurd (k refl))
-  failed r p n (unreadable off-the-scale q) h = refused-with 16 p n h (omega arith) (λ _ k. absurd (k refl))
-  failed r p n is-stuck h = refused-with 11 0 n h (omega arith) (λ _ _. refl)
-  failed r p n past-limit h = refused-with 12 0 n h (omega arith) (λ _ _. refl)
+  failed r p n (of-turn (unreadable zero-divisor q)) h = refused-with 10 p n h (omega arith) (λ k _. absurd (k refl))
+  failed r p n (of-turn (unreadable off-the-scale q)) h = refused-with 16 p n h (omega arith) (λ _ k. absurd (k refl))
+  failed r p n (of-turn is-stuck) h = refused-with 11 0 n h (omega arith) (λ _ _. refl)
+  failed r p n (of-turn past-limit) h = refused-with 12 0 n h (omega arith) (λ _ _. refl)
   failed r p n no-steps h = refused-with 13 0 n h (omega arith) (λ _ _. refl)
   failed r p n no-room h = refused-with 14 0 n h (omega arith) (λ _ _. refl)
 

@@ -1,5 +1,5 @@
--- The starred sheets of 01, the facts and examples beside them, the worked runs, faults and quotients, proved by computing the
--- rules on them.
+-- The starred sheets of 01, the facts and examples beside them, the worked runs, faults, quotients and budgets, proved by
+-- computing the rules on them.
 use mathlib.Core.Path.{refl}
 use Rattle.rules.specs.Base.{Each, nil, _&_}
 use Rattle.rules.specs.Worked.{Holds, table, StarredSheets}
@@ -8,6 +8,7 @@ use Rattle.rules.specs.Examples.{examples, ExamplesHold}
 use Rattle.rules.specs.Runs.{Plays, runs, RunsPlay}
 use Rattle.rules.specs.Faults.{faults, run-faults}
 use Rattle.rules.specs.Division.{quotients, quotient-runs}
+use Rattle.rules.specs.Budget.{withBudget, powers, budgets}
 use Rattle.rules.proofs.Compute.{every-rule}
 
 pub starred-sheets : StarredSheets
@@ -44,3 +45,7 @@ quotients-hold = refl & refl & refl & refl & refl & refl & refl & refl & refl & 
 pub quotient-runs-play : Each Plays quotient-runs
 unfolding quotient-runs every-rule
 quotient-runs-play = refl & refl & refl & refl & refl & refl & nil
+
+pub budgets-hold : Each Holds budgets
+unfolding budgets withBudget powers every-rule
+budgets-hold = refl & refl & refl & refl & refl & refl & refl & refl & refl & refl & refl & refl & refl & refl & refl & refl & nil

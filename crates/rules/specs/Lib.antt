@@ -18,4 +18,5 @@ pub mod Examples
 pub mod Runs
 pub mod Faults
 pub mod Division
+pub mod Budget
 pub mod ShutOut

@@ -175,7 +175,11 @@ afterTurn slots xs w (refused r p) = stop r p
 afterTurn slots xs w (ended a b) = goOn xs (widen w a b)
 afterTurn slots xs w (follow new) = if leb (length xs + length new) slots then goOn (new ++ xs) w else stop outOfRoom 0
 
-unfoldable pub searchStep : Program → ℕ → State → List State → Window → Step
+-- what a step makes of the top state, the stack below it and the window
+abbrev pub Stepper : Type 0
+Stepper = State → List State → Window → Step
+
+unfoldable pub searchStep : Program → ℕ → Stepper
 searchStep g slots x xs w = afterTurn slots xs w (turn g x)
 
 -- how a search ends: a refusal, its place and the steps; or the steps and the window
@@ -188,13 +192,18 @@ unfoldable pub resume : ℕ → (List State → Window → End) → Step → End
 resume n k (stop r p) = fails r p n
 resume n k (goOn ys w) = k ys w
 
--- "While a state is held: refusal 13 is tried; the top state is taken and steps grows by one". The first argument is what is
--- left of the budget, n the steps taken.
+-- "While a state is held: refusal 13 is tried; the top state is taken and steps grows by one", whatever a step is. The first
+-- number is what is left of the budget, n the steps taken.
+unfoldable pub searchBy : Stepper → ℕ → List State → Window → ℕ → End
+searchBy step zero [] w n = finds n w
+searchBy step zero (x ∷ xs) w n = fails outOfSteps 0 n
+searchBy step (suc left) [] w n = finds n w
+searchBy step (suc left) (x ∷ xs) w n = resume (suc n) (λ ys w′. searchBy step left ys w′ (suc n)) (step x xs w)
+
+-- the search of 01, by its own step (who unfolds it sees the loop)
 unfoldable pub search : ℕ → Program → ℕ → List State → Window → ℕ → End
-search zero g slots [] w n = finds n w
-search zero g slots (x ∷ xs) w n = fails outOfSteps 0 n
-search (suc left) g slots [] w n = finds n w
-search (suc left) g slots (x ∷ xs) w n = resume (suc n) (λ ys w′. search left g slots ys w′ (suc n)) (searchStep g slots x xs w)
+unfolding searchBy
+search left g slots xs w n = searchBy (searchStep g slots) left xs w n
 
 -- the states that a search takes, in order: "the steps taken, which equal the states the rule takes, the refused one included"
 unfoldable pub resumeTaking : (List State → Window → List State) → Step → List State
@@ -214,8 +223,13 @@ start g = record {
   owners = replicate (g .locks) none;
 }
 
+-- the search of a program with some slots, by its step; and that of 01
+unfoldable pub fromBy : (Program → ℕ → Stepper) → Program → ℕ → End
+fromBy step g slots = searchBy (step g slots) (g .header .budget) (start g ∷ []) unseen 0
+
 unfoldable pub searchFrom : Program → ℕ → End
-searchFrom g slots = search (g .header .budget) g slots (start g ∷ []) unseen 0
+unfolding fromBy search
+searchFrom g slots = fromBy searchStep g slots
 
 -- the states that the search of a program takes
 unfoldable pub statesTaken : Program → ℕ → List State
@@ -241,11 +255,16 @@ judge low high (fails r p n) = five (number r) p n 0 0
 judge low high (finds n unseen) = five (number labelBroken) 0 n 0 0
 judge low high (finds n (seen a b)) = if leb low a && leb b high then five 0 0 n a b else five (number labelBroken) 0 n a b
 
--- "slots are the buffer's length divided by 100, rounded down. At the start one state is held (0 slots: refusal 14, steps 0)."
-unfoldable pub answerWith : ℕ → Got Program → Answer
-answerWith slots (bad r p) = five (number r) p 0 0 0
-answerWith slots (got g e) = if eqb slots 0 then five (number outOfRoom) 0 0 0 0 else judge (g .header .labelLow) (g .header .labelHigh) (searchFrom g slots)
+-- "At the start one state is held (0 slots: refusal 14, steps 0)." `from` is the search of a program with some slots
+unfoldable pub answerBy : (Program → ℕ → End) → ℕ → Got Program → Answer
+answerBy from slots (bad r p) = five (number r) p 0 0 0
+answerBy from slots (got g e) = if eqb slots 0 then five (number outOfRoom) 0 0 0 0 else judge (g .header .labelLow) (g .header .labelHigh) (from g slots)
 
--- the five numbers for a sheet and the length of the work buffer
+-- the five numbers of 01, by its own search
+unfoldable pub answerWith : ℕ → Got Program → Answer
+unfolding answerBy
+answerWith slots x = answerBy searchFrom slots x
+
+-- "slots are the buffer's length divided by 100, rounded down": the five numbers for a sheet and the length of the work buffer
 unfoldable pub answer : Bytes → ℕ → Answer
 answer s n = answerWith (n / numbersPerState) (readSheet s)

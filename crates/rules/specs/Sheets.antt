@@ -1,4 +1,4 @@
--- How a sheet's bytes are written, for the worked sheets.
+-- How a sheet's bytes are written, for the worked sheets and for a budget put into a sheet.
 use mathlib.Core.List.{[], _∷_, _++_}
 use Prim.Native.Nat.{ℕ, _/_, _%_}
 use lib.ListN.{length}
