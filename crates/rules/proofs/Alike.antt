@@ -1,6 +1,6 @@
 -- Two readings alike, in what is read and in refusals, that end at a place or behind it; and that the readers' combinators keep them
 -- so.
-use mathlib.Core.Path.{_≡_, refl, ap, subst}
+use mathlib.Core.Path.{_≡_, refl, ap, _∙_, subst}
 use mathlib.Core.Bool.{Bool, true, false}
 use mathlib.Core.List.{List, [], _∷_, _++_}
 use Prim.Native.Nat.{ℕ, zero, suc, _≤_}
@@ -31,10 +31,10 @@ module _ (k : ℕ) {A : Type 0} where
   then-alike (bad r p) y f g h l = ap (λ (z : Got A). andThen z g) h
   then-alike {B} (got a q) y f g h l = subst (λ (z : Got A). Alike k {A = B} (f a q) (andThen z g)) (h .0) (l a q (h .1))
 
-  pub map-alike : {B : Type 0} (f : A → B) (x y : Got A) → Alike k x y → Alike k (mapGot f x) (mapGot f y)
+  pub map-alike : {B : Type 0} (f g : A → B) → f ≡ g → (x y : Got A) → Alike k x y → Alike k (mapGot f x) (mapGot g y)
   unfolding mapGot
-  map-alike f (bad r p) y h = ap (mapGot f) h
-  map-alike f (got a q) y h = (ap (mapGot f) (h .0), h .1)
+  map-alike f g e (bad r p) y h = ap (mapGot g) h
+  map-alike f g e (got a q) y h = (ap (λ i. got (i a) q) e ∙ ap (mapGot g) (h .0), h .1)
 
   pub exactly-alike : (at e : ℕ) (x y : Got A) → Alike k x y → Alike k (exactly at e x) (exactly at e y)
   unfolding exactly

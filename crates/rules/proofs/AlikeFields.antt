@@ -1,6 +1,6 @@
 -- What is read from a place on depends on the sheet's length and on the bytes from that place on: two sheets that agree there
 -- read alike. Here fields and expressions.
-use mathlib.Core.Path.{_≡_, refl, ap, _∙_, subst}
+use mathlib.Core.Path.{_≡_, refl, ap, subst}
 use mathlib.Core.Bool.{Bool}
 use mathlib.Core.List.{List, [], _∷_, _++_}
 use Prim.Native.Nat.{ℕ, zero, suc, _+_, _≤_}
@@ -13,8 +13,8 @@ use Rattle.rules.specs.Base.{if_then_else_}
 use Rattle.rules.specs.Refusal.{short, outOfTurn, badLength, offRange, noSuchName, badExpression}
 use Rattle.rules.specs.Constants.{mostVariables, mostLocks}
 use Rattle.rules.specs.Interval.{Interval, interval, Operator}
-use Rattle.rules.specs.Program.{Arith, constant, register, operation, Condition, negation, conjunction}
-use Rattle.rules.specs.Format.{Bytes, Got, bad, got, andThen, need, byte, num16, num32, twosComplement, int32, hasHead, hasBody, due, sized, readLocks, readRange, variableHere, readVariables, readRegisters}
+use Rattle.rules.specs.Program.{Arith, constant, register, operation, Condition, conjunction}
+use Rattle.rules.specs.Format.{Bytes, Got, bad, got, byte, num16, num32, twosComplement, int32, hasHead, hasBody, due, sized, readLocks, readRange, variableHere, readVariables, readRegisters}
 use Rattle.rules.specs.Format.{ArithKind, aConstant, aRegister, unknown, anOperator, arithKind, arithAt, readConstant, readRegister, onArith, readArith, ConditionKind, leaf, aNegation, aConjunction, unknownCondition, comparison, conditionKind, conditionAt, onCondition, readCondition}
 use Rattle.rules.proofs.Alike.{Alike, need-alike, then-alike, many-alike, both-alike}
 
@@ -47,33 +47,26 @@ module _ (k : ℕ) (s t : Bytes) (agree : SameFrom k s t) where
   due-alike : {A : Type 0} (tag at : ℕ) → k ≤ at → (x y : Got A) → Alike k x y → Alike k (due tag s at x) (due tag t at y)
   unfolding due
   due-alike tag at l x y h =
-      need-alike k (hasHead s at) (hasHead t at) (head-same at) short at (need (eqb (byte s at) tag) outOfTurn at x) (need (eqb (byte t at) tag) outOfTurn at y)
-      (need-alike k (eqb (byte s at) tag) (eqb (byte t at) tag) (ap (λ (b : ℕ). eqb b tag) (agree .same at l)) outOfTurn at x y h)
+      need-alike k _ _ (head-same at) short at _ _ (need-alike k _ _ (ap (λ (b : ℕ). eqb b tag) (agree .same at l)) outOfTurn at x y h)
 
   pub sized-alike : {A : Type 0} (at n : ℕ) → k ≤ at → (ok ok′ : Bool) → ok ≡ ok′ → (a a′ : A) → a ≡ a′ → Alike k (sized s at n ok a) (sized t at n ok′ a′)
   unfolding sized
   sized-alike {A} at n l ok ok′ e a a′ e′ =
-      let z = got a (at + 3 + n) in
-      let z′ = got a′ (at + 3 + n) in
-      need-alike k (hasBody s at) (hasBody t at) (body-same at l) short at (need (eqb (num16 s (at + 1)) n) badLength at (need ok offRange at z)) (need (eqb (num16 t (at + 1)) n) badLength at (need ok′ offRange at z′))
-      (need-alike k (eqb (num16 s (at + 1)) n) (eqb (num16 t (at + 1)) n) (ap (λ (b : ℕ). eqb b n) (num16-same (at + 1) (omega arith))) badLength at (need ok offRange at z) (need ok′ offRange at z′)
-      (need-alike k ok ok′ e offRange at z z′ (ap (λ (x : A). got x (at + 3 + n)) e′, omega arith)))
+      need-alike k _ _ (body-same at l) short at _ _ (need-alike k _ _ (ap (λ (b : ℕ). eqb b n) (num16-same (at + 1) (omega arith))) badLength at _ _
+      (need-alike k ok ok′ e offRange at _ _ (ap (λ (x : A). got x (at + 3 + n)) e′, omega arith)))
 
   pub locks-alike : (at : ℕ) → k ≤ at → Alike k (readLocks s at) (readLocks t at)
   unfolding readLocks
   locks-alike at l =
       let e = agree .same (at + 3) (omega arith) in
-      let x = byte s (at + 3) in
-      let y = byte t (at + 3) in
-      due-alike 3 at l (sized s at 1 (leb x mostLocks) x) (sized t at 1 (leb y mostLocks) y) (sized-alike at 1 l (leb x mostLocks) (leb y mostLocks) (ap (λ (b : ℕ). leb b mostLocks) e) x y e)
+      due-alike 3 at l _ _ (sized-alike at 1 l _ _ (ap (λ (b : ℕ). leb b mostLocks) e) _ _ e)
 
   range-alike : (at : ℕ) → k ≤ at → Alike k (readRange s at) (readRange t at)
   unfolding readRange
   range-alike at l =
       let a = int32-same (at + 3) (omega arith) in
       let b = int32-same (at + 7) (omega arith) in
-      sized-alike at 8 l (leZ (int32 s (at + 3)) (int32 s (at + 7))) (leZ (int32 t (at + 3)) (int32 t (at + 7))) (cc)
-      (interval (int32 s (at + 3)) (int32 s (at + 7))) (interval (int32 t (at + 3)) (int32 t (at + 7))) (ap (λ (x : ℤ). interval x (int32 s (at + 7))) a ∙ ap (interval (int32 t (at + 3))) b)
+      sized-alike at 8 l _ _ (λ i. leZ (a i) (b i)) _ _ (λ i. interval (a i) (b i))
 
   variable-here : (at : ℕ) → k ≤ at → variableHere s at ≡ variableHere t at
   unfolding variableHere
@@ -96,17 +89,14 @@ module _ (k : ℕ) (s t : Bytes) (agree : SameFrom k s t) where
   constant-alike : (e p : ℕ) → k ≤ p → Alike k (readConstant s e p) (readConstant t e p)
   unfolding readConstant
   constant-alike e p l =
-      need-alike k (leb (p + 4) e) (leb (p + 4) e) refl badExpression p (got (constant (int32 s p)) (p + 4)) (got (constant (int32 t p)) (p + 4))
-      (ap (λ (z : ℤ). got (constant z) (p + 4)) (int32-same p l), omega arith)
+      need-alike k (leb (p + 4) e) (leb (p + 4) e) refl badExpression p _ _ (ap (λ (z : ℤ). got (constant z) (p + 4)) (int32-same p l), omega arith)
 
   register-alike : (e n p : ℕ) → k ≤ p → Alike k (readRegister s e n p) (readRegister t e n p)
   unfolding readRegister
   register-alike e n p l =
-      let x = byte s p in
-      let y = byte t p in
-      need-alike k (leb (p + 1) e) (leb (p + 1) e) refl badExpression p (need (ltb x n) noSuchName p (got (register x) (p + 1))) (need (ltb y n) noSuchName p (got (register y) (p + 1)))
-      (need-alike k (ltb x n) (ltb y n) (ap (λ (b : ℕ). ltb b n) (agree .same p l)) noSuchName p (got (register x) (p + 1)) (got (register y) (p + 1))
-      (ap (λ (b : ℕ). got (register b) (p + 1)) (agree .same p l), omega arith))
+      let x = agree .same p l in
+      need-alike k (leb (p + 1) e) (leb (p + 1) e) refl badExpression p _ _
+      (need-alike k _ _ (ap (λ (b : ℕ). ltb b n) x) noSuchName p _ _ (ap (λ (b : ℕ). got (register b) (p + 1)) x, omega arith))
 
   on-arith : (h h′ : ArithKind) → h ≡ h′ → (c c′ r r′ : Got Arith) (f f′ : Operator → Got Arith) (u : Got Arith) → Alike k c c′ → Alike k r r′
       → ((o : Operator) → Alike k (f o) (f′ o)) → Alike k u u → Alike k (onArith h c r f u) (onArith h′ c′ r′ f′ u)
@@ -124,9 +114,7 @@ module _ (k : ℕ) (s t : Bytes) (agree : SameFrom k s t) where
   unfolding readArith
   arith-alike zero e n p l = refl
   arith-alike (suc d) e n p l =
-      on-arith (arithAt s e p) (arithAt t e p) (arith-at e p l) (readConstant s e (p + 1)) (readConstant t e (p + 1)) (readRegister s e n (p + 1)) (readRegister t e n (p + 1))
-      (λ o. andThen (readArith d s e n (p + 1)) (λ a q. andThen (readArith d s e n q) (λ b r. got (operation o a b) r)))
-      (λ o. andThen (readArith d t e n (p + 1)) (λ a q. andThen (readArith d t e n q) (λ b r. got (operation o a b) r))) (bad badExpression p)
+      on-arith (arithAt s e p) (arithAt t e p) (arith-at e p l) _ _ _ _ _ _ (bad badExpression p)
       (constant-alike e (p + 1) (omega arith)) (register-alike e n (p + 1) (omega arith))
       (λ o. both-alike k (λ q. readArith d s e n q) (λ q. readArith d t e n q) (operation o) (p + 1) (omega arith) (λ q l′. arith-alike d e n q l′)) refl
 
@@ -148,15 +136,8 @@ module _ (k : ℕ) (s t : Bytes) (agree : SameFrom k s t) where
   unfolding readCondition
   condition-alike zero e n p l = refl
   condition-alike (suc d) e n p l =
-      on-condition (conditionAt s e p) (conditionAt t e p) (condition-at e p l)
-      (λ c. got c (p + 1)) (λ c. got c (p + 1))
-      (λ _. andThen (readCondition d s e n (p + 1)) (λ c q. got (negation c) q)) (λ _. andThen (readCondition d t e n (p + 1)) (λ c q. got (negation c) q))
-      (λ _. andThen (readCondition d s e n (p + 1)) (λ a q. andThen (readCondition d s e n q) (λ b r. got (conjunction a b) r)))
-      (λ _. andThen (readCondition d t e n (p + 1)) (λ a q. andThen (readCondition d t e n q) (λ b r. got (conjunction a b) r)))
-      (λ f. andThen (readArith d s e n (p + 1)) (λ a q. andThen (readArith d s e n q) (λ b r. got (f a b) r)))
-      (λ f. andThen (readArith d t e n (p + 1)) (λ a q. andThen (readArith d t e n q) (λ b r. got (f a b) r))) (bad badExpression p)
+      on-condition (conditionAt s e p) (conditionAt t e p) (condition-at e p l) _ _ _ _ _ _ _ _ (bad badExpression p)
       (λ c. (refl, omega arith))
-      (then-alike k (readCondition d s e n (p + 1)) (readCondition d t e n (p + 1)) (λ c q. got (negation c) q) (λ c q. got (negation c) q)
-      (condition-alike d e n (p + 1) (omega arith)) (λ c q l′. (refl, l′)))
+      (then-alike k (readCondition d s e n (p + 1)) (readCondition d t e n (p + 1)) _ _ (condition-alike d e n (p + 1) (omega arith)) (λ c q l′. (refl, l′)))
       (both-alike k (λ q. readCondition d s e n q) (λ q. readCondition d t e n q) conjunction (p + 1) (omega arith) (λ q l′. condition-alike d e n q l′))
       (λ f. both-alike k (λ q. readArith d s e n q) (λ q. readArith d t e n q) f (p + 1) (omega arith) (λ q l′. arith-alike d e n q l′)) refl

@@ -11,7 +11,7 @@ use lib.ListN.{getD, set}
 use Rattle.rules.specs.Base.{if_then_else_}
 use Rattle.rules.specs.Refusal.{Result, value, fault, onValue}
 use Rattle.rules.specs.Interval.{Interval, _∈_}
-use Rattle.rules.specs.Program.{Action, halt, skip, assign, branch, store, load, unlock, lock, isHalt, Statement, Thread, Program}
+use Rattle.rules.specs.Program.{Action, halt, skip, assign, branch, store, load, unlock, lock, isHalt, Thread, Program}
 use Rattle.rules.specs.Lock.{Owner, mayTake, afterLock, afterUnlock}
 use Rattle.rules.specs.Expression.{Regs, evaluate, allParts, narrowYes, narrowNo}
 use Rattle.rules.specs.Search.{ThreadState, State, Next, unread, states, effect, moved, fromValue, unlessEmpty, branches}

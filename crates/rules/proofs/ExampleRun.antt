@@ -6,7 +6,6 @@ use lib.Dec.{T}
 use Rattle.rules.specs.Program.{Program, skip, halt}
 use Rattle.rules.specs.Format.{got, readSheet}
 use Rattle.rules.specs.Run.{RunState, Event, next, play, finished, greatestClock, no-values, no-more, one-more, Starts}
-use Rattle.rules.specs.Search.{answer}
 use Rattle.rules.specs.Demands.{HoldsOfSheet}
 use Rattle.rules.specs.Worked.{B}
 use Rattle.rules.proofs.Compute.{every-rule}

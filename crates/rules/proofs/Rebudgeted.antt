@@ -8,7 +8,7 @@ use lib.Dec.{T, leb, eqb, leb→le, le→leb}
 use lib.ListN.{length}
 use Rattle.rules.specs.Refusal.{Refusal, short, outOfTurn, badLength, offRange, tooLong}
 use Rattle.rules.specs.Constants.{longestSheet, greatestLimit, greatestBudget}
-use Rattle.rules.specs.Program.{Header, Program}
+use Rattle.rules.specs.Program.{Program}
 use Rattle.rules.specs.Format.{Bytes, Got, bad, got, andThen, need, num16, num32, hasHead, hasBody, due, sized, headerFits, readHeader, readLocks, readVariables, readThreads, readSheet}
 use Rattle.rules.specs.Budget.{budgetIn, SameButBudget, headerWith, rebudgeted}
 use Rattle.rules.proofs.Base.{and-left, and-right, and-both}
@@ -51,18 +51,6 @@ fits-more limit b c low high h l t =
     (and-both (leb 1 c && leb c greatestBudget) lab (and-both (leb 1 c) (leb c greatestBudget) (le→leb 1 c (le-trans one h)) (le→leb c greatestBudget l))
     (and-right (leb 1 b && leb b greatestBudget) lab rest))
 
--- the header by its four numbers, and what stands behind it
-header-of : Bytes → ℕ → ℕ → ℕ → ℕ → Got Header
-header-of sheet limit budget low high =
-    due 1 sheet 0 (sized sheet 0 16 (headerFits limit budget low high) (record { limit = limit; budget = budget; labelLow = low; labelHigh = high }))
-
-rest : Bytes → Header → ℕ → Got Program
-rest sheet h p =
-    andThen (readLocks sheet p) (λ k q.
-    andThen (readVariables sheet q) (λ vs r.
-    andThen (readThreads (length vs) k sheet r) (λ ts e.
-    got (record { header = h; locks = k; vars = vs; threads = ts }) e)))
-
 module _ (s t : Bytes) (same : SameButBudget s t) (larger : budgetIn s ≤ budgetIn t) (in-range : budgetIn t ≤ greatestBudget) where
   abbrev b : ℕ
   b = budgetIn t
@@ -86,37 +74,29 @@ module _ (s t : Bytes) (same : SameButBudget s t) (larger : budgetIn s ≤ budge
   unfolding hasBody
   has-body = let a = length-field in let c = same .same-length in cc
 
-  header-fixed : (limit low high : ℕ) → Into (headerWith b) 11 (header-of s limit (budgetIn s) low high) (header-of t limit b low high)
-  unfolding header-of due sized hasHead
-  header-fixed limit low high =
+  header-into : Into (headerWith b) 11 (readHeader s) (readHeader t)
+  unfolding readHeader due sized hasHead
+  header-into =
+      let limit = limit-same in
+      let low = num32-same 11 s t behind 11 (omega arith) in
+      let high = num32-same 11 s t behind 15 (omega arith) in
       need-into (headerWith b) 11 _ _ (subst (λ (n : ℕ). T (leb 3 n)) (same .same-length)) short 0 _ _ (λ _.
       need-into (headerWith b) 11 _ _ (subst (λ (n : ℕ). T (eqb n 1)) (same .same-before 0 (omega arith))) outOfTurn 0 _ _ (λ _.
       need-into (headerWith b) 11 _ _ (subst T has-body) short 0 _ _ (λ _.
       need-into (headerWith b) 11 _ _ (subst (λ (n : ℕ). T (eqb n 16)) length-field) badLength 0 _ _ (λ _.
-      need-into (headerWith b) 11 _ _ (fits-more limit (budgetIn s) b low high larger in-range) offRange 0 _ _ (λ _. (refl, omega arith))))))
+      need-into (headerWith b) 11 _ _
+      (λ h. subst T (λ i. headerFits (limit i) b (low i) (high i)) (fits-more (num32 s 3) (budgetIn s) b (num32 s 11) (num32 s 15) larger in-range h)) offRange 0 _ _
+      (λ _. (sym (λ i. got (record { limit = limit i; budget = b; labelLow = low i; labelHigh = high i }) 19), omega arith))))))
 
-  header-into : Into (headerWith b) 11 (readHeader s) (readHeader t)
-  unfolding readHeader header-of
-  header-into =
-      let one : header-of t (num32 s 3) b (num32 s 11) (num32 s 15) ≡ header-of t (num32 t 3) b (num32 t 11) (num32 t 15) =
-      (let a = limit-same in let c = num32-same 11 s t behind 11 (omega arith) in let d = num32-same 11 s t behind 15 (omega arith) in cc) in
-      subst (Into (headerWith b) 11 (readHeader s)) one (header-fixed (num32 s 3) (num32 s 11) (num32 s 15))
-
-  -- ---- what stands behind the header
-
-  rest-into : (h : Header) (p : ℕ) → 11 ≤ p → Into (rebudgeted b) 11 (rest s h p) (rest t (headerWith b h) p)
-  unfolding rest
-  rest-into h p l =
+  sheet-into : Into (rebudgeted b) 11 (readSheet s) (readSheet t)
+  unfolding readSheet
+  sheet-into =
+      need-into (rebudgeted b) 11 _ _ (subst (λ (n : ℕ). T (leb n longestSheet)) (same .same-length)) tooLong 0 _ _ (λ _.
+      then-into (headerWith b) (rebudgeted b) 11 (readHeader s) (readHeader t) _ _ header-into (λ h p l.
       then-into (λ (n : ℕ). n) (rebudgeted b) 11 (readLocks s p) (readLocks t p) _ _ (alike-into 11 (readLocks s p) (readLocks t p) (locks-alike 11 s t behind p l)) (λ k q l₁.
       then-into (λ vs. vs) (rebudgeted b) 11 (readVariables s q) (readVariables t q) _ _ (alike-into 11 (readVariables s q) (readVariables t q) (variables-alike 11 s t behind q l₁)) (λ vs r l₂.
       then-into (λ ts. ts) (rebudgeted b) 11 (readThreads (length vs) k s r) (readThreads (length vs) k t r) _ _
-      (alike-into 11 (readThreads (length vs) k s r) (readThreads (length vs) k t r) (threads-alike 11 s t behind (length vs) k r l₂)) (λ ts e l₃. (refl, l₃))))
-
-  sheet-into : Into (rebudgeted b) 11 (readSheet s) (readSheet t)
-  unfolding readSheet rest
-  sheet-into =
-      need-into (rebudgeted b) 11 _ _ (subst (λ (n : ℕ). T (leb n longestSheet)) (same .same-length)) tooLong 0 (andThen (readHeader s) (rest s)) (andThen (readHeader t) (rest t)) (λ _.
-      then-into (headerWith b) (rebudgeted b) 11 (readHeader s) (readHeader t) (rest s) (rest t) header-into rest-into)
+      (alike-into 11 (readThreads (length vs) k s r) (readThreads (length vs) k t r) (threads-alike 11 s t behind (length vs) k r l₂)) (λ ts e l₃. (refl, l₃))))))
 
   pub reads-rebudgeted : (g : Program) (e : ℕ) → readSheet s ≡ got g e → readSheet t ≡ got (rebudgeted b g) e
   reads-rebudgeted g e q = subst (λ (x : Got Program). Into (rebudgeted b) 11 x (readSheet t)) q sheet-into .0

@@ -1,6 +1,5 @@
 -- No refusal has the number 0, which stands for acceptance.
 use mathlib.Core.Path.{_≡_}
-use Prim.Native.Nat.{ℕ}
 use native.Mathlib.Omega.{arith}
 use Rattle.rules.specs.Refusal.{Refusal, number}
 use Rattle.rules.specs.Refusal.{short, outOfTurn, badLength, offRange, noSuchName, badExpression, noHalt, tooMany, tooLong, noReading, stuck, pastLimit, outOfSteps, outOfRoom, labelBroken, offScale}

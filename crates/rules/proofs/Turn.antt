@@ -1,19 +1,19 @@
 -- One turn, for any state of the search and any state of a run in it: every event of the run is covered by a state that the
 -- turn makes and lies within the limit; a run that has finished lies between the ends of a turn that has ended.
 use mathlib.Core.Path.{_≡_, refl, sym, ap, _∙_, subst}
-use mathlib.Core.Bool.{Bool, true, false, not}
-use mathlib.Core.List.{List, [], _∷_, _++_}
-use Prim.Native.Nat.{ℕ, zero, suc, _+_, _≤_, _<_, min, max, zero-le}
+use mathlib.Core.Bool.{not}
+use mathlib.Core.List.{List, [], _∷_}
+use Prim.Native.Nat.{ℕ, zero, suc, _+_, _≤_, _<_, max, zero-le}
 use native.Mathlib.Nat.{le-trans, le-of-suc-le-suc, not-suc-le-zero}
 use native.Mathlib.Omega.{arith}
 use lib.Dec.{T, T-not, leb, ltb, le→leb, nltb→le}
 use lib.ListN.{length, getD}
-use Rattle.rules.specs.Base.{if_then_else_, all, allBelow, Each, nil, _&_}
-use Rattle.rules.specs.Refusal.{Refusal, stuck, pastLimit, Result, value, fault}
-use Rattle.rules.specs.Program.{Action, Statement, Thread, Program, isHalt, noStatement, noThread}
+use Rattle.rules.specs.Base.{if_then_else_, all, Each, nil, _&_}
+use Rattle.rules.specs.Refusal.{stuck, pastLimit, Result}
+use Rattle.rules.specs.Program.{Statement, Thread, Program, isHalt, noStatement, noThread}
 use Rattle.rules.specs.Search.{ThreadState, State, Live, Next, unread, states, Turn, refused, ended, follow, effect, before, events, liveFrom, statementAt, greatestLow, greatestHigh, turnBound, turnOf, turn, waits}
 use Rattle.rules.specs.Run.{RunThread, RunState, noRunThread, act, threadOf, statementOf, live, finished, greatestClock}
-use Rattle.rules.proofs.Base.{if-ind, not-both, all-below-elim}
+use Rattle.rules.proofs.Base.{if-ind, all-below-elim}
 use Rattle.rules.proofs.Event.{Ends, acted, live-there}
 use Rattle.rules.proofs.Cover.{ThreadIn, ThreadsIn, no-threads, one-thread, In, Covers, CoversNext, covers-left, covers-right, effect-covers}
 

@@ -1,7 +1,7 @@
 -- A timed run (01, that section): one step over single values, lists of events, starts and finishes.
 use mathlib.Core.Path.{_≡_}
 use mathlib.Core.Bool.{Bool, true, false, _&&_, _||_, not}
-use mathlib.Core.Option.{Option, none, some}
+use mathlib.Core.Option.{none}
 use mathlib.Core.List.{List, [], _∷_}
 use Prim.Native.Nat.{ℕ, suc, _+_, max}
 use lib.Dec.{T, leb}
