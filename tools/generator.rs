@@ -2,7 +2,11 @@
 //! includes this has `mod oracle` beside it: the oracle's answers serve to find
 //! the labels, limits, budgets and buffers that just suffice or just do not.
 
+#[path = "random.rs"]
+mod random;
+
 use crate::oracle::{check, quotient, Answer};
+pub use random::Random;
 
 /// A search that would take more steps than this is not offered.
 pub const MOST_STEPS: u32 = 20_000;
@@ -38,32 +42,13 @@ pub fn answer(sheet: &[u8], length: usize) -> Option<Answer> {
 // Random numbers
 // ---------------------------------------------------------------------------
 
-/// splitmix64
-pub struct Random(pub u64);
-
 impl Random {
-    pub fn next(&mut self) -> u64 {
-        self.0 = self.0.wrapping_add(0x9E37_79B9_7F4A_7C15);
-        let mut mixed = self.0;
-        mixed = (mixed ^ (mixed >> 30)).wrapping_mul(0xBF58_476D_1CE4_E5B9);
-        mixed = (mixed ^ (mixed >> 27)).wrapping_mul(0x94D0_49BB_1331_11EB);
-        mixed ^ (mixed >> 31)
-    }
-
-    pub fn below(&mut self, count: usize) -> usize {
-        (self.next() % count as u64) as usize
-    }
-
     pub fn between(&mut self, low: usize, high: usize) -> usize {
         low + self.below(high - low + 1)
     }
 
     pub fn chance(&mut self, percent: usize) -> bool {
         self.below(100) < percent
-    }
-
-    pub fn pick<T: Copy>(&mut self, choices: &[T]) -> T {
-        choices[self.below(choices.len())]
     }
 }
 

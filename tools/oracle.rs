@@ -13,6 +13,10 @@
 //!
 //! Sentences in quotation marks are those of the specification.
 
+#[path = "random.rs"]
+mod random;
+
+use self::random::Random;
 use std::convert::TryFrom;
 use std::env;
 use std::fmt;
@@ -1132,28 +1136,13 @@ fn starting_ranges(program: &Program) -> Vec<Interval> {
     program.variables.iter().chain(registers).copied().collect()
 }
 
-/// Random numbers (splitmix64).
-struct Random(u64);
-
 impl Random {
-    fn next(&mut self) -> u64 {
-        self.0 = self.0.wrapping_add(0x9E37_79B9_7F4A_7C15);
-        let mut mixed = self.0;
-        mixed = (mixed ^ (mixed >> 30)).wrapping_mul(0xBF58_476D_1CE4_E5B9);
-        mixed = (mixed ^ (mixed >> 27)).wrapping_mul(0x94D0_49BB_1331_11EB);
-        mixed ^ (mixed >> 31)
-    }
-
-    fn below(&mut self, count: u64) -> u64 {
-        self.next() % count
-    }
-
     /// A number of low..high: an end, or any number, so that ends come often.
     fn within(&mut self, low: i64, high: i64) -> i64 {
         match self.below(3) {
             0 => low,
             1 => high,
-            _ => low + self.below((high - low) as u64 + 1) as i64,
+            _ => low + self.below((high - low) as usize + 1) as i64,
         }
     }
 }
@@ -1173,7 +1162,7 @@ fn random_runs(program: &Program, seed: u64, count: u64) -> Figures {
             let choices: Vec<(usize, (u64, u64))> = (0..program.threads.len())
                 .filter_map(|thread| Some((thread, state.ticks(program, thread)?)))
                 .collect();
-            let (thread, (from, to)) = choices[random.below(choices.len() as u64) as usize];
+            let (thread, (from, to)) = random.pick(&choices);
             let tick = random.within(from as i64, to as i64) as u64;
             events += 1;
             match step(program, &state, thread, tick) {
@@ -1958,13 +1947,13 @@ mod tests {
     fn random_arithmetic(random: &mut Random, depth: usize) -> Arithmetic {
         let constants = [i32::MIN, i32::MIN + 1, -65_536, -2, -1, 0, 1, 2, 65_536, i32::MAX - 1, i32::MAX];
         match random.below(6) {
-            0 | 1 if depth > 1 => register(random.below(3) as usize),
+            0 | 1 if depth > 1 => register(random.below(3)),
             _ if depth > 1 => {
-                let operator = OPERATORS[random.below(4) as usize];
+                let operator = random.pick(&OPERATORS);
                 operation(operator, random_arithmetic(random, depth - 1), random_arithmetic(random, depth - 1))
             }
-            0..=2 => register(random.below(3) as usize),
-            _ => constant(constants[random.below(constants.len() as u64) as usize]),
+            0..=2 => register(random.below(3)),
+            _ => constant(random.pick(&constants)),
         }
     }
 

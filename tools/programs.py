@@ -28,6 +28,12 @@ def reason(error):
     return error.strerror or str(error)
 
 
+def once(files):
+    """Standard input may be one of the files."""
+    if files.count("-") > 1:
+        raise CannotRun("standard input, -, can be read once")
+
+
 def crates_of(name):
     """The crate and those of the repository that it depends on, by crates.txt."""
     listed = {}
@@ -91,15 +97,15 @@ def program(name):
     return path
 
 
-def run(path, given):
-    """What the program writes, with the bytes given on its standard input."""
+def run(path, *arguments, given=b""):
+    """What the program writes, to standard output and to standard error, with the bytes given on its standard input."""
     name = os.path.basename(path)
     try:
-        ended = subprocess.run([path], input=given, stdout=subprocess.PIPE, stderr=subprocess.DEVNULL)
+        ended = subprocess.run([path, *arguments], input=given, capture_output=True)
     except OSError as error:
         raise CannotRun(f"target/bin/{name} does not run: {reason(error)}") from None
     if ended.returncode < 0:
         raise CannotRun(f"target/bin/{name} was ended by signal {-ended.returncode}")
     if ended.returncode > 0:
         raise CannotRun(f"target/bin/{name} ended with status {ended.returncode}")
-    return ended.stdout
+    return ended.stdout, ended.stderr

@@ -30,6 +30,7 @@ Only the form is checked here: whether a number is within its range, or a name
 exists, is for the reader of the sheet to say.
 """
 
+import io
 import re
 import struct
 import sys
@@ -38,6 +39,7 @@ HEADERS = {"limit": "I", "budget": "I", "label": "II", "locks": "B"}  # and how 
 TOKEN = re.compile(r"\s*(?:(\d+)|(r\d+)|(true|false)|(==|&&|[-+*/<!()]))")
 OPERATORS = {"+": 18, "-": 19, "*": 20, "/": 21, "&&": 35}
 COMPARISONS = {"==": 36, "<": 37}
+CONTROL = re.compile(rb"[\x00-\x08\x0b\x0c\x0e-\x1f\x7f]")
 
 
 class SheetError(Exception):
@@ -247,6 +249,17 @@ class Sheet:
             yield [number], field(4, packed("B", len(registers)))
             for number, part in registers + statements:
                 yield [number], part
+
+
+def is_text(given):
+    """Whether a file's bytes are taken for a text: it is not empty and holds no control characters but tabs and line
+    ends. (The bytes of a sheet begin with a control character, byte 1.)"""
+    return bool(given) and not CONTROL.search(given)
+
+
+def lines_of(given):
+    """The lines of a text that is given as bytes."""
+    return list(io.StringIO(given.decode("utf-8-sig", "replace"), newline=None))
 
 
 def assemble_with_lines(lines):

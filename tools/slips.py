@@ -14,6 +14,7 @@ every slip is noticed, no change of words is, and all of the third table is come
 
 import os
 import re
+import shutil
 import subprocess
 import sys
 import tempfile
@@ -21,18 +22,89 @@ import tempfile
 TOOLS = os.path.dirname(os.path.abspath(__file__))
 SECONDS = 60
 
-SLIPS = []
-SAME = []
+
+def edited(text, name, edits):
+    for old, new in edits:
+        if text.count(old) != 1:
+            sys.exit(f"{name}: the old text stands {text.count(old)} times: {old!r}")
+        text = text.replace(old, new)
+    return text
+
+
+class Program:
+    """A program of tools/ that answers a corpus, and the changes of its text that are tried."""
+
+    def __init__(self, name, modules, *options):
+        self.name, self.modules, self.options = name, modules, options  # options of the compiler
+        self.slips, self.same_rules = [], []
+        with open(os.path.join(TOOLS, f"{name}.rs"), encoding="utf-8") as file:
+            self.text = file.read()
+
+    def slip(self, name, what, *edits):
+        self.slips.append((name, what, edits))
+
+    def same(self, name, why, *edits):
+        """A rule in other words."""
+        self.same_rules.append((name, why, edits))
+
+    def compiled(self, text, folder):
+        """The program of this text."""
+        source, program = os.path.join(folder, f"{self.name}.rs"), os.path.join(folder, self.name)
+        with open(source, "w", encoding="utf-8") as file:
+            file.write(text)
+        # not optimised: compiling takes longer than the corpus
+        compiler = subprocess.run(["rustc", *self.options, "-C", "overflow-checks=off", "-A", "warnings", "-o", program, source],
+                                  capture_output=True, text=True)
+        if compiler.returncode != 0:
+            sys.exit(compiler.stderr)
+        return program
+
+    def answered(self, text, corpus, folder):
+        """How many entries the program of this text answers otherwise, and on how many it panics; or what else it does."""
+        try:
+            run = subprocess.run([self.compiled(text, folder), "corpus", corpus], capture_output=True, text=True, timeout=SECONDS)
+        except subprocess.TimeoutExpired:
+            return "no end"
+        found = re.match(r"(\d+) of \d+ entries are answered otherwise, (\d+) end in a panic", run.stdout)
+        if run.returncode != 0 or not found:
+            return "no answer"
+        return int(found.group(1)), int(found.group(2))
+
+    def changed(self, text, corpus, folder):
+        """What the program of this text makes of the corpus, in words for a table; 0 for nothing otherwise."""
+        found = self.answered(text, corpus, folder)
+        if isinstance(found, str):
+            return found
+        otherwise, panics = found
+        return f"{otherwise} and {panics} panics" if panics else otherwise
+
+    def try_all(self, corpus, folder, only=""):
+        """Prints a table of the slips and one of the rules in other words. Gives what is to be said of both, and whether every
+        slip was noticed and no change of words."""
+        for module in self.modules:
+            shutil.copy(os.path.join(TOOLS, f"{module}.rs"), folder)
+        tables = [[(name, what, edited(self.text, name, edits)) for name, what, edits in table if only in name]
+                  for table in (self.slips, self.same_rules)]
+        if self.changed(self.text, corpus, folder) != 0:
+            sys.exit(f"{self.name}.rs itself answers the corpus otherwise")
+        noticed = []
+        for heads, texts in zip(("slip | what", "same rule | why"), tables):
+            print(f"| {heads} | entries changed |\n|---|---|---|")
+            noticed.append(0)
+            for name, what, text in texts:
+                count = self.changed(text, corpus, folder)
+                noticed[-1] += count != 0
+                print(f"| {name} | {what} | {count} |", flush=True)
+            print()
+        slips, same_rules = map(len, tables)
+        told = f"{slips} slips, {slips - noticed[0]} unnoticed; {same_rules} same rules, {noticed[1]} noticed"
+        return told, noticed == [slips, 0]
+
+
+ORACLE = Program("oracle", ["random"])
 REACHED = []
 
-
-def slip(name, what, *edits):
-    SLIPS.append((name, what, edits))
-
-
-def same(name, why, *edits):
-    """A rule in other words."""
-    SAME.append((name, why, edits))
+slip, same = ORACLE.slip, ORACLE.same
 
 
 def reach(name, *edits):
@@ -710,81 +782,24 @@ reach("two threads with different faults in one turn", FAULTS_OF_THREADS,
        "        assert!(faults.iter().all(|fault| *fault == faults[0]));\n" + FAULT_LOOP))
 
 
-def edited(text, name, edits):
-    for old, new in edits:
-        if text.count(old) != 1:
-            sys.exit(f"slips.py: {name}: the old text stands {text.count(old)} times: {old!r}")
-        text = text.replace(old, new)
-    return text
-
-
-def compiled(text, folder):
-    """The oracle of this text."""
-    source, program = os.path.join(folder, "oracle.rs"), os.path.join(folder, "oracle")
-    with open(source, "w", encoding="utf-8") as file:
-        file.write(text)
-    # not optimised: compiling takes longer than the corpus
-    compiler = subprocess.run(["rustc", "-C", "overflow-checks=off", "-A", "warnings", "-o", program, source],
-                              capture_output=True, text=True)
-    if compiler.returncode != 0:
-        sys.exit(compiler.stderr)
-    return program
-
-
-def answered(text, corpus, folder):
-    """How many entries the oracle of this text answers otherwise, and on how many it panics; or what else it does."""
-    try:
-        run = subprocess.run([compiled(text, folder), "corpus", corpus], capture_output=True, text=True, timeout=SECONDS)
-    except subprocess.TimeoutExpired:
-        return "no end"
-    found = re.match(r"(\d+) of \d+ entries are answered otherwise, (\d+) end in a panic", run.stdout)
-    if run.returncode != 0 or not found:
-        return "no answer"
-    return int(found.group(1)), int(found.group(2))
-
-
-def changed(text, corpus, folder):
-    """What the oracle of this text makes of the corpus, in words for the table; 0 for nothing otherwise."""
-    found = answered(text, corpus, folder)
-    if isinstance(found, str):
-        return found
-    otherwise, panics = found
-    return f"{otherwise} and {panics} panics" if panics else otherwise
-
-
 def main(arguments):
     only = ""
     if arguments[:1] == ["--only"]:
         only, arguments = arguments[1], arguments[2:]
     if len(arguments) != 1:
         sys.exit("usage: slips.py [--only WORD] CORPUS")
-    with open(os.path.join(TOOLS, "oracle.rs"), encoding="utf-8") as file:
-        oracle = file.read()
-    tables = [[(name, what, edited(oracle, name, edits)) for name, what, edits in table if only in name]
-              for table in (SLIPS, SAME)]
-    noticed = []
     with tempfile.TemporaryDirectory() as folder:
-        if changed(oracle, arguments[0], folder) != 0:
-            sys.exit("slips.py: the oracle itself answers the corpus otherwise")
-        for heads, texts in zip(("slip | what", "same rule | why"), tables):
-            print(f"| {heads} | entries changed |\n|---|---|---|")
-            noticed.append(0)
-            for name, what, text in texts:
-                count = changed(text, arguments[0], folder)
-                noticed[-1] += count != 0
-                print(f"| {name} | {what} | {count} |", flush=True)
-            print()
+        told, well = ORACLE.try_all(arguments[0], folder, only)
         print("| what the search comes to | entries |\n|---|---|")
         missing = 0
         for name, edits in REACHED:
             if only in name:
-                found = answered(edited(oracle, name, edits), arguments[0], folder)
+                found = ORACLE.answered(edited(ORACLE.text, name, edits), arguments[0], folder)
                 missing += found == (0, 0)
                 print(f"| {name} | {found[1]} |", flush=True)
         print()
-    print(f"{len(tables[0])} slips, {len(tables[0]) - noticed[0]} unnoticed; {len(tables[1])} same rules, {noticed[1]} noticed; "
-          f"{missing} of the last table without an entry")
-    sys.exit(noticed != [len(tables[0]), 0] or missing > 0)
+    print(f"{told}; {missing} of the last table without an entry")
+    sys.exit(not well or missing > 0)
 
 
 if __name__ == "__main__":

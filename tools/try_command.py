@@ -1,63 +1,30 @@
 #!/usr/bin/env python3
-"""Tries ./zumbeiry check: on every sheet of sheets/, as text and as bytes, on inputs that are broken on purpose, and on
-a copy of the command whose rt is a stand-in that proves nothing, so that building is tried too.
+"""Tries ./zumbeiry check: on every sheet of sheets/, as text and as bytes, and on inputs that are broken on purpose. Then
+building, by try_building.py, ./zumbeiry find, by try_find.py, and tools/shelf_file.py, by try_shelf_file.py.
 
     python3 tools/try_command.py
 
-The command first builds target/bin/label_main, if need be. The last line is 'N passed, 0 failed'.
+The command first builds target/bin/label_main and target/bin/shelf_main, if need be. The last line is
+'N passed, 0 failed'.
 """
 
 import os
 import re
-import shutil
 import subprocess
 import sys
 import tempfile
 
 sys.dont_write_bytecode = True
 
+import lookup
 import sheet
+import try_building
+import try_find
+import try_shelf_file
 import words
+from calls import B, Call, ROOT, cannot, copied, counts, expect, in_folder
 
-ROOT = os.path.dirname(os.path.dirname(os.path.realpath(__file__)))
 HEAD = "limit 10\nbudget 100\nlabel 0..10\nlocks 1\nvar 0..0\n"  # lines 1 to 5
-B = bytes.fromhex("010010 0000000A 00000064 00000002 00000003 030001 00 040001 00 060005 0002 0003 01 060005 0000 0000 00")
-
-passed = failed = 0
-
-
-def expect(what, holds, seen=""):
-    global passed, failed
-    passed, failed = passed + bool(holds), failed + (not holds)
-    if not holds:
-        print(f"FAILED: {what}\n{seen}")
-
-
-class Call:
-    """One call of the command, with what it wrote and how it ended."""
-
-    def __init__(self, *arguments, given=b"", root=ROOT, folder=ROOT, path=None):
-        environment = dict(os.environ, PATH=path if path is not None else os.environ["PATH"])
-        command = [sys.executable, os.path.join(root, "zumbeiry"), *arguments]
-        ended = subprocess.run(command, input=given, cwd=folder, env=environment, capture_output=True)
-        self.what = " ".join(arguments)
-        self.status, self.out, self.err = ended.returncode, ended.stdout.decode(), ended.stderr.decode()
-
-    def gives(self, status, *out, err=()):
-        """The exit status is the one given, each of the words is written, and nothing went wrong inside."""
-        seen = f"status {self.status}\n{self.out}{self.err}"
-        expect(f"{self.what}: status {status}", self.status == status and "Traceback" not in self.err, seen)
-        for text in out:
-            expect(f"{self.what}: writes {text!r}", text in self.out, seen)
-        for text in err:
-            expect(f"{self.what}: says {text!r}", text in self.err, seen)
-        return self
-
-
-def cannot(call, *err):
-    """The command could not run: 2, nothing answered, one line that says why."""
-    call.gives(2, err=err)
-    expect(f"{call.what}: one line and no answer", call.out == "" and call.err.count("\n") == 1, call.out + call.err)
 
 
 def try_sheets(folder):
@@ -72,9 +39,7 @@ def try_sheets(folder):
         status = 0 if numbers[-1].startswith("0 ") else 1
         word = "accepted: " if status == 0 else "refused, "
         first = Call("check", path).gives(status, numbers[-1] + "\n" + word)
-        with open(os.path.join(folder, name), "wb") as file:
-            file.write(sheet.assemble(lines))
-        second = Call("check", os.path.join(folder, name)).gives(status)
+        second = Call("check", in_folder(folder, name, sheet.assemble(lines))).gives(status)
         said = "".join(line for line in first.out.splitlines(True) if not line.startswith("  line "))
         expect(f"{name}: bytes give what text gives", second.out == said, first.out + second.out)
     several = [os.path.join("sheets", name) for name in names]
@@ -171,10 +136,8 @@ def try_bytes(folder):
     )
     for given, *said in wrong:
         Call("check", "-", given=given).gives(1, *said)
-    path = os.path.join(folder, "B's bytes")
-    with open(path, "wb") as file:
-        file.write(B)
-    Call("check", os.path.basename(path), folder=folder).gives(0, "0 0 2 2 3\naccepted: ")
+    in_folder(folder, "B's bytes", B)
+    Call("check", "B's bytes", folder=folder).gives(0, "0 0 2 2 3\naccepted: ")
     Call("check", "-", given=B).gives(0, "between tick 2 and tick 3, inside the label 2..3; the search took 2 states")
     cannot(Call("check", "--text", "-", given=B), "zumbeiry: -: line 1: ")
     Call("check", "--bytes", "-", given=b"limit 10").gives(1, "2 0 0 0 0\nrefused, 2 out of turn")
@@ -222,70 +185,21 @@ def try_usage(folder):
     Call("check", "A.txt", "-", given=B, folder=os.path.join(ROOT, "sheets")).gives(0, "A.txt:\n0 0 1", "-:\n0 0 2")
 
 
-def stand_in(path, script):
-    with open(path, "w", encoding="utf-8") as file:
-        file.write("#!/bin/sh\n" + script)
-    os.chmod(path, 0o755)
-
-
-def try_building(folder):
-    """In a copy with one small crate and a stand-in for rt, which copies the program instead of proving it."""
-    copy, bins = os.path.join(folder, "copy"), os.path.join(folder, "bins")
-    source = os.path.join(copy, "crates", "label", "src", "lib.rt")
-    built = os.path.join(copy, "target", "bin", "label_main")
-    for made in (os.path.dirname(source), os.path.dirname(built), os.path.join(copy, "tools"), bins):
-        os.makedirs(made)
-    shutil.copy(os.path.join(ROOT, "zumbeiry"), copy)
-    for name in ("sheet.py", "words.py", "programs.py"):
-        shutil.copy(os.path.join(ROOT, "tools", name), os.path.join(copy, "tools"))
-    for name, text in (("crates.txt", "label:\nlabel_main: label io # a comment\n"), (source, "")):
-        with open(os.path.join(copy, name), "w", encoding="utf-8") as file:
-            file.write(text)
-    real = os.path.join(ROOT, "target", "bin", "label_main")
-    path = bins + os.pathsep + os.environ["PATH"]
-    rt = os.path.join(bins, "rt")
-
-    def call(path=path):
-        return Call("check", "-", given=B, root=copy, folder=folder, path=path)
-
-    cannot(call(path=folder), "there is no rt")
-    stand_in(rt, "echo noise; echo 'rt: rules NOT PROVED'; exit 1\n")
-    call().gives(2, err=["proving and building label_main", "\nrt: rules NOT PROVED\n", "'rt check label_main' ended with 1"])
-    stand_in(rt, "exit 0\n")
-    call().gives(2, err=["wrote no target/bin/label_main"])
-    stand_in(rt, f"[ \"$*\" = 'check label_main' ] && echo 'rt: label proved (1 s)' && cp -p '{real}' '{built}'\n")
-    call().gives(0, "0 0 2 2 3\n", err=["zumbeiry: proving and building", "\nrt: label proved (1 s)\n"])
-    expect("built once", call().gives(0, "0 0 2 2 3\n").err == "")
-    os.utime(source)
-    call().gives(0, "0 0 2 2 3\n", err=["zumbeiry: proving and building"])
-    expect("built once more", call().gives(0).err == "")
-    stand_in(rt, "exit 1\n")
-    os.utime(os.path.join(copy, "crates.txt"))
-    call().gives(2)
-    call().gives(2, err=["zumbeiry: proving and building"])
-    for script, said in (
-        ("exit 3\n", "ended with status 3"),
-        ("kill -9 $$\n", "ended by signal 9"),
-        ("echo hello\n", "did not print five numbers"),
-        ("echo 99 0 0 0 0\n", "a refusal that has no words"),
-    ):
-        stand_in(built, script)
-        cannot(call(), said)
-
-
 def try_readme():
     with open(os.path.join(ROOT, "README.md"), encoding="utf-8") as readme:
         text = readme.read()
     rows = re.findall(r"^\| (\d+) (.+) \| (.+) \| (.+) \|$", text, re.MULTILINE)
-    table = [(str(number), *row) for number, row in words.REFUSALS.items()]
-    expect("README's table of refusals is the command's", [row for row in rows if row in table] == table, rows)
+    for verb, refusals in (("check", words.REFUSALS), ("find", lookup.REFUSALS)):
+        table = [(str(number), *row) for number, row in refusals.items()]
+        expect(f"README's table of refusals is that of {verb}", [row for row in rows if row in table] == table, rows)
     sums = re.findall(r"^\| (\d) \| (\d+) \| ([\d,]+) \|$", text, re.MULTILINE)
     right = [words.enough(int(threads), int(limit)) == int(budget.replace(",", "")) for threads, limit, budget in sums]
     expect("README's table of budgets is the command's", len(right) == 8 and all(right), sums)
 
 
 def main():
-    subprocess.run([os.path.join(ROOT, "zumbeiry"), "check", os.path.join(ROOT, "sheets", "B.txt")])
+    for arguments in (["check", "sheets/B.txt"], ["find", "--check", "10", *try_find.EXAMPLES]):
+        subprocess.run([os.path.join(ROOT, "zumbeiry"), *arguments], cwd=ROOT)
     with tempfile.TemporaryDirectory() as folder:
         try_sheets(folder)
         try_texts()
@@ -293,10 +207,13 @@ def main():
         try_search()
         try_budgets()
         try_usage(folder)
-        try_building(folder)
+        copy = copied(folder)
+        try_building.try_all(folder, copy)
         try_readme()
-    print(f"{passed} passed, {failed} failed")
-    return 1 if failed else 0
+        try_find.try_all(folder, copy)
+        try_shelf_file.try_all(folder)
+    print(f"{counts[True]} passed, {counts[False]} failed")
+    return 1 if counts[False] else 0
 
 
 if __name__ == "__main__":

@@ -5,9 +5,10 @@ What a sheet's bytes mean is told here only as far as a reader of the answer nee
 they are right is for the proved program to say, and nothing here changes what it said.
 """
 
-from typing import NamedTuple, Optional
+from typing import NamedTuple
 
 import sheet as notation
+from fields import fields
 
 LENT = 12000  # numbers that the program lends, and how many of them a state fills
 PER_STATE = 100
@@ -80,17 +81,10 @@ class Answer(NamedTuple):
     high: int
 
 
-class Field(NamedTuple):
-    """A field where it stands, or where the sheet ends one that is not there (tag None)."""
-
-    offset: int
-    tag: Optional[int]
-    words: str
-    due: str  # what is due there
-
-
 class Walk:
-    """Counts the fields that were passed, so as to name the next one."""
+    """Counts the fields of a sheet that were passed, so as to name the next one."""
+
+    whole = "sheet"
 
     def __init__(self):
         self.due = "limit, budget and label (tag 1)"
@@ -134,22 +128,6 @@ class Walk:
             self.due = f"a statement of thread {self.thread} (tag 6)"
 
 
-def fields(sheet):
-    """The fields of a sheet as far as its bytes go, and at last the one that is not there."""
-    walk, at = Walk(), 0
-    while at + 3 <= len(sheet):
-        tag, length = sheet[at], int.from_bytes(sheet[at + 1 : at + 3], "big")
-        end, due = at + 3 + length, walk.due
-        words = f"{walk.name(tag, sheet[at + 3 : end])} (tag {tag}, length {length})"
-        if end > len(sheet):
-            words += f", of which {len(sheet) - at} of {end - at} bytes are there"
-        yield Field(at, tag, words, due)
-        at = end
-    if at < len(sheet):
-        yield Field(at, None, f"a header of which {len(sheet) - at} of 3 bytes are there", walk.due)
-    yield Field(len(sheet), None, "here the sheet ends", walk.due)
-
-
 def number(count, thing):
     return f"{count:,} {thing}" + ("" if count == 1 else "s")
 
@@ -163,9 +141,9 @@ def head(sheet):
     return [int.from_bytes(sheet[at : at + 4], "big") for at in (3, 7, 11, 15)]
 
 
-def place_lines(answer, sheet):
+def place_lines(answer, given, walk):
     """The field at fault, for the refusals that name one."""
-    found = next((field for field in fields(sheet) if field.offset == answer.place), None)
+    found = next((field for field in fields(given, walk) if field.offset == answer.place), None)
     if found is None:
         return [f"at byte {answer.place}"]
     lines = [f"at byte {found.offset}: {found.words}"]
@@ -204,7 +182,7 @@ def budget_lines(sheet):
     if budget == LARGEST_BUDGET:
         return [f"the budget is {budget:,} steps, the largest that a sheet may have: only a smaller routine can help"]
     lines = [f"the budget is {number(budget, 'step')}; a larger one, at most {LARGEST_BUDGET:,}, may decide"]
-    threads = sum(field.tag == 4 for field in fields(sheet))
+    threads = sum(field.tag == 4 for field in fields(sheet, Walk()))
     always = enough(threads, limit)
     if always is not None:
         lines.append(f"with {number(threads, 'thread')} and limit {limit:,}, a budget of {always:,} is always enough")
@@ -233,17 +211,21 @@ def search_lines(answer, sheet):
     return [taken]
 
 
+def refused(number, row, lines):
+    """A refusal in words: its row of a table of refusals, and the lines that tell more of it."""
+    word, when, remedy = row
+    return [f"refused, {number} {word}: {when}"] + ["  " + line for line in [*lines, f"what to do: {remedy}"]]
+
+
 def explain(answer, sheet, text=(), places=()):
     """The lines of words below the five numbers."""
     if answer.refusal == 0:
         _, _, low, high = head(sheet)
         runs = f"every run finishes {window(answer.low, answer.high)}, inside the label {low}..{high}"
         return [f"accepted: {runs}; the search took {number(answer.steps, 'state')}"]
-    word, when, remedy = REFUSALS[answer.refusal]
     lines = []
     if answer.refusal in PLACED:
-        lines += text_lines(answer, text, places) + place_lines(answer, sheet)
+        lines += text_lines(answer, text, places) + place_lines(answer, sheet, Walk())
     if answer.refusal >= FIRST_OF_SEARCH:
         lines += search_lines(answer, sheet)
-    lines.append(f"what to do: {remedy}")
-    return [f"refused, {answer.refusal} {word}: {when}"] + ["  " + line for line in lines]
+    return refused(answer.refusal, REFUSALS[answer.refusal], lines)

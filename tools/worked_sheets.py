@@ -15,6 +15,8 @@ paper gives a fact about an interval, and the sheet here is one that shows it.
 import struct
 import sys
 
+sys.dont_write_bytecode = True
+
 import sheet
 
 ROOM = 12000  # numbers lent, unless the paper says otherwise

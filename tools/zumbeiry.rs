@@ -1,4 +1,4 @@
-//! The library's call for Rust; zumbeiry.h says what it promises.
+//! zumbeiry_check for Rust; zumbeiry.h says what it promises. It links liblabel.a.
 
 #[link(name = "label", kind = "static")]
 extern "C" {

@@ -4,9 +4,15 @@
 //
 // Some entries are planted, so that the comparison itself is tried: one of their numbers is wrong, or the program changes a number
 // of the buffer after the call. It prints how many there are of both, and how many of these it noticed.
+use corpus::both;
+use corpus::counted;
+use corpus::four;
+use corpus::put;
+use corpus::read_front;
+use corpus::two;
+use corpus::wide;
 use label::Answer;
 use label::check;
-ghost use Prim.Native.Nat.{_<_};
 
 const MOST_SHEETS: usize = 65536;
 
@@ -52,22 +58,6 @@ struct Tally {
     wrong_noticed: u64,
     changed: u64,
     changed_noticed: u64,
-}
-
-fn wide(x: u8) -> u64
-    ensures { λ r. ⌜ r < 256 ⌝ }
-{
-    x as u64
-}
-
-fn two(a: u8, b: u8) -> u64
-    ensures { λ r. ⌜ r < 65536 ⌝ }
-{
-    wide(a) * 256 + wide(b)
-}
-
-fn four(a: u8, b: u8, c: u8, d: u8) -> u64 {
-    two(a, b) * 65536 + two(c, d)
 }
 
 fn front_of(b: &[u8; 20]) -> Front {
@@ -127,13 +117,6 @@ fn zeros(work: &[i32]) -> bool {
         i += 1;
     }
     true
-}
-
-fn both(a: bool, b: bool) -> bool {
-    if a {
-        return b;
-    }
-    false
 }
 
 fn not_read() -> Verdict {
@@ -231,24 +214,6 @@ fn compare_sheet(f: Front, bytes: &[u8], work: &mut [i32]) -> Verdict {
     compare_marked(&bytes[..n], f, work)
 }
 
-// Reads the next n bytes to the front of the buffer; false where there are fewer.
-fn read_front(buffer: &mut [u8], n: usize) -> bool {
-    if buffer.len() < n {
-        return false;
-    }
-    io::read_full(0, &mut buffer[..n]) == n
-}
-
-// One more where the fact holds.
-fn counted(n: u64, fact: bool) -> u64 {
-    if fact {
-        if n < 1000000 {
-            return n + 1;
-        }
-    }
-    n
-}
-
 fn added(t: Tally, v: Verdict, planted: u64) -> Tally {
     let wrong = planted == WRONG;
     let changed = planted > WRONG;
@@ -301,11 +266,6 @@ fn compare_all(count: u64, bytes: &mut [u8], work: &mut [i32]) -> Tally {
         t = compare_due(count, t, bytes, work);
     }
     t
-}
-
-fn put(n: u64, text: &[u8]) {
-    io::print_decimal(1, n);
-    io::write_all(1, text);
 }
 
 fn main() {

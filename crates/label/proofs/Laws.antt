@@ -1,11 +1,8 @@
 -- The answer by the label, and the answer to the search of a sheet.
 use mathlib.Core.Path.{_≡_, refl, sym, ap, subst, _∙_}
 use mathlib.Core.Bool.{Bool, true, false, _&&_}
-use mathlib.Core.List.{List, [], _∷_}
-use Prim.Native.Nat.{ℕ, _/_, _≤_}
-use native.Mathlib.Omega.{arith}
+use Prim.Native.Nat.{ℕ, _/_}
 use lib.Dec.{leb, eqb}
-use lib.ListN.{length, set, drop}
 use Rattle.rules.specs.Base.{if_then_else_}
 use Rattle.rules.specs.Constants.{numbersPerState}
 use Rattle.rules.specs.Refusal as R
@@ -73,12 +70,3 @@ module _ (s : Bytes) (n : ℕ) (a : Answer) (e : a ≡ answer s n) (z : a .refus
 
   pub holds-of-sheet : HoldsOfSheet s
   holds-of-sheet = accepted-holds s n accepted-answer
-
--- five numbers at the front of an array that has room for them
-pub five-sets : (l : List ℕ) (a b c d e : ℕ) → 5 ≤ length l → set (set (set (set (set l 0 a) 1 b) 2 c) 3 d) 4 e ≡ a ∷ b ∷ c ∷ d ∷ e ∷ drop 5 l
-five-sets [] a b c d e h = absurd (omega arith)
-five-sets (u ∷ []) a b c d e h = absurd (omega arith)
-five-sets (u ∷ v ∷ []) a b c d e h = absurd (omega arith)
-five-sets (u ∷ v ∷ w ∷ []) a b c d e h = absurd (omega arith)
-five-sets (u ∷ v ∷ w ∷ x ∷ []) a b c d e h = absurd (omega arith)
-five-sets (u ∷ v ∷ w ∷ x ∷ y ∷ l) a b c d e h = refl

@@ -1,4 +1,4 @@
-// The library's one call: a sheet and a lent work buffer in, five numbers out, and the buffer all zeros.
+// The call that checks a sheet: a sheet and a lent work buffer in, five numbers out, and the buffer all zeros.
 use refusal::Refusal;
 use refusal::number_of;
 use search::Label;

@@ -6,26 +6,20 @@ use native.Mathlib.Decide.{decLe}
 use native.Mathlib.Omega.{arith}
 use borrow.Author.Tests.{lt-leb}
 use lib.ListN.{length, take, drop, replicate, length-append, length-replicate}
-use lib.Seq.{append-snoc, take-append-seam, drop-append-seam, take-all, length-take-le}
+use lib.Seq.{take-append-seam, drop-append-seam, take-all, length-take-le}
 use Rattle.rules.specs.Refusal.{tooLong}
 use Rattle.rules.specs.Constants.{longestSheet, numbersPerState, lentByProgram}
 use Rattle.rules.specs.Format.{Bytes, Got, bad, need, readSheet}
 use Rattle.rules.specs.Program.{Program}
 use Rattle.rules.specs.Search.{Answer, answerWith, answer}
 use Rattle.rules.specs.Product.{decimal, line, printed}
-use Rattle.writing.specs.Out.{outOf, write, Writes}
-use Rattle.writing.proofs.Written.{then-writes, fits-front}
-use Rattle.writing.proofs.Decimal.{decimal-length}
+use Rattle.writing.specs.Out.{Writes}
+use Rattle.writing.proofs.Written.{text-then, fits-front}
+use Rattle.writing.proofs.Decimal.{number-length}
 use Rattle.label_main.specs.declared.Line.{Line}
 use Rattle.label_main.specs.Line.{Holds}
 
 -- ---- the five numbers, one behind the other
-
--- a text with one byte behind it, and then another text
-text-then : (d : Bytes) (b : ℕ) (s : Bytes) (l m n : Bytes) (x y z : ℕ) → Writes (d ++ b ∷ []) l x m y → Writes s m y n z
-    → Writes (d ++ b ∷ s) l x n z
-text-then d b s l m n x y z e f =
-    then-writes (d ++ b ∷ []) s l m n x y z e f ∙ ap (λ (t : Bytes). write t (outOf l x)) (append-snoc d b s)
 
 pub line-written : (a : Answer) (l₀ l₁ l₂ l₃ l₄ l₅ : Bytes) (p₁ p₂ p₃ p₄ p₅ : ℕ)
     → Writes (decimal (a .refusal) ++ 32 ∷ []) l₀ 0 l₁ p₁
@@ -44,9 +38,6 @@ line-written a l₀ l₁ l₂ l₃ l₄ l₅ p₁ p₂ p₃ p₄ p₅ r p s l h 
 -- four numbers of 32 bits, ten digits each; the place, twenty digits; and one byte behind each
 abbrev pub longest : ℕ
 longest = 65
-
-number-length : (k n b : ℕ) (s : Bytes) → n < 10 ^ suc k → length (decimal n ++ b ∷ s) ≤ k + 2 + length s
-number-length k n b s h = omega (arith, length-append (decimal n) (b ∷ s), decimal-length k n h)
 
 pub line-length : (a : Answer) → a .refusal < 2 ^ 32 → a .place < 2 ^ 64 → a .steps < 2 ^ 32 → a .low < 2 ^ 32 → a .high < 2 ^ 32
     → length (line a) ≤ longest

@@ -2,15 +2,13 @@
 // bytes that were read is proved to be what the rules print of them.
 use label::Answer;
 use label::check;
-use writing::put;
-use writing::put_decimal;
+use writing::put_number;
 ghost use mathlib.Core.Path.{_≡_};
-ghost use mathlib.Core.List.{[], _∷_, _++_};
 ghost use Prim.Native.Nat.{_+_, _≤_};
 ghost use lib.ListN.{length};
 ghost use Rattle.rules.specs.Constants.{longestSheet};
 ghost use Rattle.rules.specs.Product as P;
-ghost use Rattle.rules.specs.Product.{decimal, line};
+ghost use Rattle.rules.specs.Product.{line};
 ghost use Rattle.writing.specs.Out.{Writes};
 ghost use Rattle.label.specs.Shape.{answerOf};
 ghost use Rattle.label_main.specs.Line.{Holds};
@@ -27,14 +25,6 @@ const LONGEST_LINE: usize = 65;
 struct Line {
     bytes: [u8; LONGEST_LINE],
     length: usize,
-}
-
-// A number in decimal and the byte behind it.
-fn put_number(out: &mut [u8], from: usize, n: usize, behind: u8) -> usize
-    ensures { λ r. ⌜ Writes (decimal n ++ behind ∷ []) (now (out .entry)) from (now (out .exit)) r ⌝ }
-{
-    let at = put_decimal(out, from, n);
-    put(out, at, behind)
 }
 
 // The five numbers at the buffer's front: spaces between them, a newline at the end.

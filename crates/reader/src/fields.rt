@@ -1,5 +1,5 @@
-// Fields: a byte, a header, a length, and the fields of fixed length.
-// Every function is given the whole sheet s and the place of a field in it.
+// Fields: a byte, a header, a length, a field of any tag, and the fields of tags 1, 3 and 4.
+// Every function is given the whole sheet s, or another file of fields, and the place of a field in it.
 use crate::heads::field_at;
 use crate::heads::has_head;
 use crate::outcome::End;
@@ -13,7 +13,9 @@ ghost use Prim.Native.Nat.{_+_, _≤_, _<_};
 ghost use lib.Dec.{leb};
 ghost use lib.ListN.{length};
 ghost use Rattle.rules.specs.Constants.{mostRegisters};
-ghost use Rattle.rules.specs.Format.{got, byte, num16, hasBody, due, sized, headerFits, readLocks};
+ghost use Rattle.rules.specs.Refusal.{short};
+ghost use Rattle.rules.specs.Format.{got, need, byte, num16, hasBody, due, sized, headerFits, readLocks};
+ghost use Rattle.reader.specs.Decoded.{bodyEnd};
 ghost use Rattle.reader.specs.Outcome.{endOf};
 ghost use Rattle.reader.specs.Walk.{headerOf, headerIn, headerAt};
 
@@ -86,6 +88,35 @@ pub(crate) fn fixed_end(s: &[u8], at: usize, n: usize) -> End
         return End::At(f.body + n);
     }
     End::Refused(Refusal::BadLength, at)
+}
+
+// ---- a field of any tag: the place behind it
+
+// A field whose body is to be n bytes long.
+pub fn fixed_field_end(s: &[u8], at: usize, tag: u8, n: u16) -> End
+    ensures { λ r. ⌜ r ≡ endOf (due tag (now (s .entry)) at (sized (now (s .entry)) at n true n)) ⌝ }
+{
+    let d = due_at(s, at, tag);
+    let End::At(_) = d else {
+        return d;
+    };
+    fixed_end(s, at, n as usize)
+}
+
+// A field whose body may have any length.
+pub fn any_field_end(s: &[u8], at: usize, tag: u8) -> End
+    ensures { λ r. ⌜ r ≡ endOf (due tag (now (s .entry)) at (need (hasBody (now (s .entry)) at) short at (got at (bodyEnd (now (s .entry)) at)))) ⌝ }
+{
+    let d = due_at(s, at, tag);
+    let End::At(_) = d else {
+        return d;
+    };
+    let n = length_at(s, at);
+    let end = at + 3 + n;
+    if s.len() < end {
+        return End::Refused(Refusal::Short, at);
+    }
+    End::At(end)
 }
 
 // ---- tag 1

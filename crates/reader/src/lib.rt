@@ -1,8 +1,8 @@
 // The reader of a sheet: any bytes to an index of the sheet, or the first refusal with its place.
 pub mod ticks; // ticks of a clock
-mod outcome; // what a reader gives
+pub mod outcome; // what a reader gives
 mod heads; // the head of a field: its tag and its length
-mod fields; // the fields of tags 1, 3 and 4
+pub mod fields; // a field of any tag, and the fields of tags 1, 3 and 4
 mod ranges; // the fields of tags 2 and 5
 mod operands; // what stands behind the code of a statement
 mod statements; // the field of tag 6

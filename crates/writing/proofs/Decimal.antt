@@ -60,3 +60,7 @@ decimal-length (suc k) n h = elim (decLt n 10) [
       let tenth : n / 10 < 10 ^ suc k = omega (arith, pow-suc 10 (suc k)) in
       omega (arith, length-large n m, decimal-length k (n / 10) tenth)
 ]
+
+-- a number of at most k + 1 digits, and one byte behind it
+pub number-length : (k n b : ℕ) (s : Bytes) → n < 10 ^ suc k → length (decimal n ++ b ∷ s) ≤ k + 2 + length s
+number-length k n b s h = omega (arith, length-append (decimal n) (b ∷ s), decimal-length k n h)

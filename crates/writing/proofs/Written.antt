@@ -29,6 +29,12 @@ write-append (b ∷ s) t o = write-append s t (put b o)
 pub then-writes : (s t : Bytes) (l m n : Bytes) (a b c : ℕ) → Writes s l a m b → Writes t m b n c → Writes (s ++ t) l a n c
 then-writes s t l m n a b c e f = f ∙ ap (write t) e ∙ sym (write-append s t (outOf l a))
 
+-- a text with one byte behind it, and then another text
+pub text-then : (d : Bytes) (b : ℕ) (s : Bytes) (l m n : Bytes) (x y z : ℕ) → Writes (d ++ b ∷ []) l x m y → Writes s m y n z
+    → Writes (d ++ b ∷ s) l x n z
+text-then d b s l m n x y z e f =
+    then-writes (d ++ b ∷ []) s l m n x y z e f ∙ ap (λ (t : Bytes). write t (outOf l x)) (append-snoc d b s)
+
 -- ---- a text that fits stands in the buffer, and what was before and behind it stays
 
 -- behind p the buffer goes on with l

@@ -1,7 +1,7 @@
 // Texts into a lent buffer. A writer is the buffer and a place in it, and gives the place behind what it wrote. What does not fit
 // is not written, and the place is then one past the buffer's end, where every later writer leaves it.
 ghost use mathlib.Core.Path.{_≡_};
-ghost use mathlib.Core.List.{[], _∷_};
+ghost use mathlib.Core.List.{[], _∷_, _++_};
 ghost use Prim.Native.Nat.{_+_, _%_};
 ghost use Rattle.rules.specs.Product.{decimal};
 ghost use Rattle.writing.specs.Out.{Writes};
@@ -33,4 +33,12 @@ pub fn put_decimal(out: &mut [u8], from: usize, n: usize) -> usize
     }
     let at = put_decimal(out, from, n / 10);
     put(out, at, digit(n))
+}
+
+// A number in decimal and the byte behind it.
+pub fn put_number(out: &mut [u8], from: usize, n: usize, behind: u8) -> usize
+    ensures { λ r. ⌜ Writes (decimal n ++ behind ∷ []) (now (out .entry)) from (now (out .exit)) r ⌝ }
+{
+    let at = put_decimal(out, from, n);
+    put(out, at, behind)
 }

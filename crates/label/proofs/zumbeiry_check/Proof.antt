@@ -1,12 +1,13 @@
 -- `label::zumbeiry_check` meets its contract. Assumes nothing.
 use mathlib.Core.Path.{ap, _∙_}
-use mathlib.Core.List.{_++_}
+use mathlib.Core.List.{[], _∷_, _++_}
 use native.Mathlib.Omega.{arith}
 use borrow.Author.Tests.{lt-ltb, le-ltb}
 use lib.ListN.{length, length-set, drop}
+use lib.Seq.{sets-eq}
 use Rattle.rules.specs.Search.{Answer, answer}
 use Rattle.label.specs.Shape.{listed}
-use Rattle.label.proofs.Laws.{window-of, five-sets}
+use Rattle.label.proofs.Laws.{window-of}
 use borrow.Author.Needs.{needs}
 use Rattle.label.proofs.zumbeiry_check.Statement.{statement}
 use Rattle.label.proofs.zumbeiry_check.Tie as tie
@@ -64,7 +65,7 @@ returns-2 c = let st = c .before .before .before .before .before .before .before
     let n = answer (a .sheet .now) (length (a .work .now)) in (
       record {
         refusal = ap (λ (x : Answer). x .refusal) (r .0);
-        numbers = rw (le-ltb (length (a .answer .now)) 5 room) (five-sets (a .answer .now) _ _ _ _ _ room ∙ ap (λ (x : Answer). listed x ++ drop 5 (a .answer .now)) (r .0));
+        numbers = rw (le-ltb (length (a .answer .now)) 5 room) (sets-eq (_ ∷ _ ∷ _ ∷ _ ∷ _ ∷ []) (a .answer .now) 0 room ∙ ap (λ (x : Answer). listed x ++ drop 5 (a .answer .now)) (r .0));
       },
       ((λ z. window-of (a .sheet .now) (length (a .work .now)) _ (r .0) z), r .1 .1),
     )

@@ -35,6 +35,12 @@ module _ {A : Type 0} (b : Bool) (r : R.Refusal) (at : ℕ) (g : Got A) where
   unfolding need endOf
   need-no e = ap (λ (t : Bool). endOf (need t r at g)) (sym e)
 
+-- a check keeps what two readings have in common
+pub need-end : {A B : Type 0} (b : Bool) (r : R.Refusal) (at : ℕ) (g : Got A) (h : Got B) → endOf g ≡ endOf h → endOf (need b r at g) ≡ endOf (need b r at h)
+unfolding need endOf
+need-end true r at g h e = e
+need-end false r at g h e = refl
+
 pub map-end : {A B : Type 0} {x : End} (f : A → B) (g : Got A) → x ≡ endOf g → x ≡ endOf (mapGot f g)
 unfolding mapGot endOf
 map-end f (bad r p) h = h

@@ -1,8 +1,8 @@
--- `label_main::put_number` meets its contract. Assumes nothing.
+-- `writing::put_number` meets its contract. Assumes nothing.
 use Rattle.writing.proofs.Written.{then-writes}
 use borrow.Author.Needs.{needs}
-use Rattle.label_main.proofs.put_number.Statement.{statement}
-use Rattle.label_main.proofs.put_number.Tie as tie
+use Rattle.writing.proofs.put_number.Statement.{statement}
+use Rattle.writing.proofs.put_number.Tie as tie
 
 put-decimal-requires : tie.Need-put-decimal-requires
 put-decimal-requires c κs = search needs

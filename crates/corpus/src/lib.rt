@@ -1,0 +1,70 @@
+// What is shared by the programs that compare the library with a corpus: numbers in bytes, counting, reading and printing.
+ghost use mathlib.Core.Path.{_≡_};
+ghost use mathlib.Core.Bool.{true, cond, _&&_};
+ghost use Prim.Native.Nat.{_+_, _*_, _<_, _≤_};
+ghost use lib.Dec.{ltb};
+ghost use lib.ListN.{length, drop};
+
+// No count goes beyond this, so that none wraps.
+const MOST: u64 = 1000000;
+
+pub fn wide(x: u8) -> u64
+    ensures { λ r. ⌜ r ≡ x ⌝ }
+    ensures { λ r. ⌜ r < 256 ⌝ }
+{
+    x as u64
+}
+
+// A number of two bytes, the high one first.
+pub fn two(a: u8, b: u8) -> u64
+    ensures { λ r. ⌜ r ≡ a * 256 + b ⌝ }
+    ensures { λ r. ⌜ r < 65536 ⌝ }
+{
+    wide(a) * 256 + wide(b)
+}
+
+// The same of four.
+pub fn four(a: u8, b: u8, c: u8, d: u8) -> u64
+    ensures { λ r. ⌜ r ≡ ((a * 256 + b) * 256 + c) * 256 + d ⌝ }
+    ensures { λ r. ⌜ r < 4294967296 ⌝ }
+{
+    two(a, b) * 65536 + two(c, d)
+}
+
+pub fn both(a: bool, b: bool) -> bool
+    ensures { λ r. ⌜ r ≡ (a && b) ⌝ }
+{
+    if a {
+        return b;
+    }
+    false
+}
+
+// One more where the fact holds and the most is not reached.
+pub fn counted(n: u64, fact: bool) -> u64
+    ensures { λ r. ⌜ r ≡ cond (fact && ltb n 1000000) (n + 1) n ⌝ }
+{
+    if fact {
+        if n < MOST {
+            return n + 1;
+        }
+    }
+    n
+}
+
+// Reads the next n bytes of standard input to the front of the buffer; false where there are fewer, or where the buffer is shorter.
+pub fn read_front(buffer: &mut [u8], n: usize) -> bool
+    ensures { λ r. ⌜ (r ≡ true → n ≤ length (now (buffer .entry))) ⌝ }
+    ensures { λ _. ⌜ drop n (now (buffer .exit)) ≡ drop n (now (buffer .entry)) ⌝ }
+{
+    if buffer.len() < n {
+        return false;
+    }
+    io::read_full(0, &mut buffer[..n]) == n
+}
+
+// A number and a text to standard output.
+pub fn put(n: u64, text: &[u8]) {
+    io::print_decimal(1, n);
+    io::write_all(1, text);
+}

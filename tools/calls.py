@@ -1,0 +1,75 @@
+"""Calls of ./zumbeiry in its tests, and what is expected of them."""
+
+import os
+import shutil
+import subprocess
+import sys
+
+ROOT = os.path.dirname(os.path.dirname(os.path.realpath(__file__)))
+
+# the sheet B of document 01
+B = bytes.fromhex("010010 0000000A 00000064 00000002 00000003 030001 00 040001 00 060005 0002 0003 01 060005 0000 0000 00")
+
+counts = {True: 0, False: 0}  # what held, and what did not
+
+
+def expect(what, holds, seen=""):
+    counts[bool(holds)] += 1
+    if not holds:
+        print(f"FAILED: {what}\n{seen}")
+
+
+class Call:
+    """One call of the command, with what it wrote and how it ended. Root is where the command stands; the environment may
+    have other values (PATH=..)."""
+
+    def __init__(self, *arguments, given=b"", root=ROOT, folder=ROOT, **environment):
+        command = [sys.executable, os.path.join(root, "zumbeiry"), *arguments]
+        environment = {**os.environ, **environment}
+        ended = subprocess.run(command, input=given, cwd=folder, env=environment, capture_output=True)
+        self.what = " ".join(arguments)
+        self.status, self.bytes, self.err = ended.returncode, ended.stdout, ended.stderr.decode()
+        self.out = self.bytes.decode(errors="backslashreplace")
+
+    def gives(self, status, *out, err=()):
+        """The exit status is the one given, each of the words is written, and nothing went wrong inside."""
+        seen = f"status {self.status}\n{self.out}{self.err}"
+        expect(f"{self.what}: status {status}", self.status == status and "Traceback" not in self.err, seen)
+        for text in out:
+            expect(f"{self.what}: writes {text!r}", text in self.out, seen)
+        for text in err:
+            expect(f"{self.what}: says {text!r}", text in self.err, seen)
+        return self
+
+
+def cannot(call, *err):
+    """The command could not run: 2, nothing answered, one line that says why."""
+    call.gives(2, err=err)
+    expect(f"{call.what}: one line and no answer", call.out == "" and call.err.count("\n") == 1, call.out + call.err)
+
+
+def in_folder(folder, name, given):
+    """The path of a file in the folder, with the bytes given."""
+    path = os.path.join(folder, name)
+    with open(path, "wb") as file:
+        file.write(given)
+    return path
+
+
+def stand_in(path, script):
+    with open(path, "w", encoding="utf-8") as file:
+        file.write("#!/bin/sh\n" + script)
+    os.chmod(path, 0o755)
+
+
+def copied(folder):
+    """A copy of the command with one small crate and no programs."""
+    copy = os.path.join(folder, "copy")
+    for made in (("crates", "label", "src"), ("target", "bin"), ("tools",)):
+        os.makedirs(os.path.join(copy, *made))
+    shutil.copy(os.path.join(ROOT, "zumbeiry"), copy)
+    for name in ("sheet.py", "words.py", "fields.py", "lookup.py", "programs.py"):
+        shutil.copy(os.path.join(ROOT, "tools", name), os.path.join(copy, "tools"))
+    in_folder(copy, "crates.txt", b"label:\nlabel_main: label io # a comment\nshelf_main: io\n")
+    in_folder(copy, os.path.join("crates", "label", "src", "lib.rt"), b"")
+    return copy
