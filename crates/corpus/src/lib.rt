@@ -63,8 +63,10 @@ pub fn read_front(buffer: &mut [u8], n: usize) -> bool
     io::read_full(0, &mut buffer[..n]) == n
 }
 
-// A number and a text to standard output.
-pub fn put(n: u64, text: &[u8]) {
+// A number and a text to standard output. No contract can say what is written there.
+pub fn put(n: u64, text: &[u8])
+    ensures { λ _. ⌜ now (text .exit) ≡ now (text .entry) ⌝ }
+{
     io::print_decimal(1, n);
     io::write_all(1, text);
 }

@@ -73,22 +73,28 @@ fn put_line(out: &mut [u8], refusal: u64, file: u64, place: u64) -> usize
 }
 
 // What goes to standard output is returned, and what goes to standard error stands at the buffer's front, up to the end.
-fn answer<'a>(name: u8, his: &'a [u8], ours: &'a [u8], out: &mut [u8], end: &mut usize) -> &'a [u8]
+fn answer<'a>(
+    name: u8,
+    customer: &'a [u8],
+    house: &'a [u8],
+    out: &mut [u8],
+    end: &mut usize,
+) -> &'a [u8]
     requires { ⌜ longestLine ≤ length (now out) ⌝ }
-    ensures { λ r. ⌜ now r ≡ written name (now (his .entry)) (now (ours .entry)) ⌝ }
-    ensures { λ _. ⌜ Writes (said name (now (his .entry)) (now (ours .entry))) (now (out .entry)) 0 (now (out .exit)) (now (end .exit)) ⌝ }
+    ensures { λ r. ⌜ now r ≡ written name (now (customer .entry)) (now (house .entry)) ⌝ }
+    ensures { λ _. ⌜ Writes (said name (now (customer .entry)) (now (house .entry))) (now (out .entry)) 0 (now (out .exit)) (now (end .exit)) ⌝ }
     ensures { λ _. ⌜ now (end .exit) ≤ length (now (out .exit)) ⌝ }
 {
     let mut numbers = [0u64; 3];
-    let sheet = lookup(name, his, ours, &mut numbers);
+    let sheet = lookup(name, customer, house, &mut numbers);
     *end = put_line(out, numbers[0], numbers[1], numbers[2]);
     sheet
 }
 
-fn put_answer<'a>(name: u8, his: &'a [u8], ours: &'a [u8]) {
+fn put_answer<'a>(name: u8, customer: &'a [u8], house: &'a [u8]) {
     let mut out = [0u8; LONGEST_LINE];
     let mut end: usize = 0;
-    let sheet = answer(name, his, ours, &mut out, &mut end);
+    let sheet = answer(name, customer, house, &mut out, &mut end);
     if !io::write_all(STDOUT_FILENO, sheet) {
         os::fail(b"standard output");
     }
@@ -138,17 +144,17 @@ fn is_whole(fd: i32, n: usize, called: &[u8]) -> bool {
 }
 
 fn look(name: u8, one: i32, two: i32) {
-    let mut his = [0u8; MOST_BYTES];
-    let n = read_file(one, &mut his);
+    let mut customer = [0u8; MOST_BYTES];
+    let n = read_file(one, &mut customer);
     if !is_whole(one, n, b"HIS") {
         return;
     }
-    let mut ours = [0u8; MOST_BYTES];
-    let m = read_file(two, &mut ours);
+    let mut house = [0u8; MOST_BYTES];
+    let m = read_file(two, &mut house);
     if !is_whole(two, m, b"OURS") {
         return;
     }
-    put_answer(name, &his[..n], &ours[..m]);
+    put_answer(name, &customer[..n], &house[..m]);
 }
 
 fn main() {

@@ -27,7 +27,7 @@ returns : tie.Need-returns
 unfolding written
 returns c =
     let a = c .before .before .before .before .before .before .before .before .before .args in let l = c .before .before .before .before .lookup .ensures in let p = c .before .before .put-line .ensures in
-    (l .0 .bytes, (said-written (a .name) (a .his .now) (a .ours .now) _ (l .1 .0) _ _ _ (p .0), p .1))
+    (l .0 .bytes, (said-written (a .name) (a .customer .now) (a .house .now) _ (l .1 .0) _ _ _ (p .0), p .1))
 
 pub answer-spec : {M : Type 1} → statement M
 answer-spec =

@@ -30,14 +30,14 @@ is-whole-requires-2 c κs = search needs
 returns-2 : tie.Need-returns-2
 returns-2 c = search needs
 
-array-share-prefix-his : tie.Need-array-share-prefix-his
-array-share-prefix-his c = search needs
+array-share-prefix-customer : tie.Need-array-share-prefix-customer
+array-share-prefix-customer c = search needs
 
 slice-aggregate-put-answer : tie.Need-slice-aggregate-put-answer
 slice-aggregate-put-answer c = sym (length-take-le _ _ (omega (arith, c .before .before .before .before .before .before .before .before .before .read-file .ensures)))
 
-array-share-prefix-ours : tie.Need-array-share-prefix-ours
-array-share-prefix-ours c = search needs
+array-share-prefix-house : tie.Need-array-share-prefix-house
+array-share-prefix-house c = search needs
 
 slice-aggregate-put-answer-2 : tie.Need-slice-aggregate-put-answer-2
 slice-aggregate-put-answer-2 c = sym (length-take-le _ _ (omega (arith, c .before .before .before .before .before .read-file2 .ensures)))
@@ -60,9 +60,9 @@ look-spec =
     slice-aggregate-is-whole-2
     is-whole-requires-2
     returns-2
-    array-share-prefix-his
+    array-share-prefix-customer
     slice-aggregate-put-answer
-    array-share-prefix-ours
+    array-share-prefix-house
     slice-aggregate-put-answer-2
     put-answer-requires
     returns-3)
