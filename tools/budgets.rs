@@ -14,16 +14,19 @@
 //! claims.rs says what is claimed.
 
 mod claims;
+mod command_line;
 #[allow(dead_code)]
 mod generator;
 #[allow(dead_code)]
 mod oracle;
 
+use command_line::{fail, parsed};
 use generator::{answer, fields, Generator};
 use oracle::{check, Answer, Recorded, MAX_BUDGET, OUT_OF_ROOM, OUT_OF_STEPS, STATE_LENGTH};
 use std::collections::BTreeSet;
-use std::io::Write;
 use std::{env, process};
+
+const NAME: &str = "budgets";
 
 /// The longest buffer that a corpus can state.
 const AMPLE: usize = 65_535;
@@ -209,28 +212,17 @@ fn broken(what: &str, sheet: &[u8], length: usize) -> ! {
     process::exit(1)
 }
 
-fn fail(message: &str) -> ! {
-    eprintln!("budgets: {message}");
-    process::exit(2)
-}
-
 fn write(entries: &[Recorded]) {
     let mut out = (entries.len() as u32).to_be_bytes().to_vec();
     out.extend(entries.iter().flat_map(Recorded::bytes));
-    if let Err(error) = std::io::stdout().write_all(&out) {
-        fail(&error.to_string());
-    }
-}
-
-fn parsed(text: &str) -> u64 {
-    text.parse().unwrap_or_else(|_| fail(&format!("not a number: {text}")))
+    command_line::write(&out);
 }
 
 fn main() {
     let arguments: Vec<String> = env::args().skip(1).collect();
     let arguments: Vec<&str> = arguments.iter().map(String::as_str).collect();
     match arguments[..] {
-        ["make", seed, count] => write(&make(parsed(seed), parsed(count) as usize)),
+        ["make", seed, count] => write(&make(parsed(seed), parsed(count))),
         ["claims", file] => claims::try_all(file),
         _ => fail("usage: budgets make SEED COUNT | claims FILE"),
     }

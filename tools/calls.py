@@ -1,6 +1,7 @@
 """Calls of ./zumbeiry in its tests, and what is expected of them."""
 
 import os
+import re
 import shutil
 import subprocess
 import sys
@@ -48,6 +49,20 @@ def cannot(call, *err):
     expect(f"{call.what}: one line and no answer", call.out == "" and call.err.count("\n") == 1, call.out + call.err)
 
 
+def text_of(*parts):
+    with open(os.path.join(ROOT, *parts), encoding="utf-8") as file:
+        return file.read()
+
+
+def as_in_readme(verb, many):
+    """README's examples of a verb, so many, are followed by what they write."""
+    examples = re.findall(rf"^    \./zumbeiry ({verb} .*)\n\n((?:    .*\n)+)", text_of("README.md"), re.MULTILINE)
+    expect(f"README.md has {many} examples of {verb}", len(examples) == many, examples)
+    for command, shown in examples:
+        call = Call(*command.split())
+        expect(f"{call.what}: as in README.md", call.out + call.err == re.sub("(?m)^    ", "", shown), call.out + call.err)
+
+
 def in_folder(folder, name, given):
     """The path of a file in the folder, with the bytes given."""
     path = os.path.join(folder, name)
@@ -68,8 +83,8 @@ def copied(folder):
     for made in (("crates", "label", "src"), ("target", "bin"), ("tools",)):
         os.makedirs(os.path.join(copy, *made))
     shutil.copy(os.path.join(ROOT, "zumbeiry"), copy)
-    for name in ("sheet.py", "words.py", "fields.py", "lookup.py", "programs.py"):
+    for name in ("sheet.py", "words.py", "fields.py", "given.py", "lookup.py", "follower.py", "programs.py"):
         shutil.copy(os.path.join(ROOT, "tools", name), os.path.join(copy, "tools"))
-    in_folder(copy, "crates.txt", b"label:\nlabel_main: label io # a comment\nshelf_main: io\n")
+    in_folder(copy, "crates.txt", b"label:\nlabel_main: label io # a comment\nshelf_main: io\nrecord_main: io\n")
     in_folder(copy, os.path.join("crates", "label", "src", "lib.rt"), b"")
     return copy

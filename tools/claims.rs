@@ -8,12 +8,12 @@
 //!
 //! The first sheet that breaks one ends the program with 1, and is printed.
 
+use crate::command_line::{contents, fail};
 use crate::generator::answer;
 use crate::oracle::{check, every_run, recorded, runs, Answer, MAX_BUDGET, OUT_OF_ROOM, OUT_OF_STEPS, STATE_LENGTH};
-use crate::{broken, enough, fail, number, reads, threads, with};
+use crate::{broken, enough, number, reads, threads, with};
 use crate::{AMPLE, BUDGET, ENDLESS, LIMIT, WRAPPED, WRAPPED_SLOTS};
 use std::collections::BTreeSet;
-use std::fs;
 
 /// All runs of a sheet are followed as far as this many events; besides, some are taken at random.
 const MOST_EVENTS: u64 = 2000;
@@ -113,8 +113,7 @@ fn try_runs(sheet: &[u8], counts: &mut Counts) {
 
 /// Tries the claims on the sheets of a corpus that read.
 pub fn try_all(file: &str) {
-    let bytes = fs::read(file).unwrap_or_else(|error| fail(&format!("{file}: {error}")));
-    let entries = recorded(&bytes).unwrap_or_else(|| fail(&format!("{file}: not a corpus")));
+    let entries = recorded(&contents(file)).unwrap_or_else(|| fail(&format!("{file}: not a corpus")));
     let entries: BTreeSet<_> = entries.into_iter().map(|entry| (entry.sheet, entry.length)).collect();
     let read: Vec<_> = entries.iter().filter(|(sheet, length)| reads(sheet, *length)).collect();
     let sheets: BTreeSet<_> = read.iter().map(|(sheet, _)| with(sheet, BUDGET, MAX_BUDGET)).collect();

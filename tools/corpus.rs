@@ -1,7 +1,7 @@
 //! Makes and reads the corpus: sheets with lengths of the work buffer and the
 //! five numbers that the oracle gives.
 //!
-//!     rustc -O -o corpus corpus.rs
+//!     rustc --edition 2021 -O -o corpus corpus.rs
 //!
 //!     corpus make SEED COUNT > FILE     the sheets at the edges, then random ones
 //!     corpus small SEED COUNT > FILE    random sheets under 150 bytes and 100 steps
@@ -31,16 +31,19 @@
 //! at the buffer after the call changes its first number before that, its last, or
 //! the number right behind it.
 
+mod command_line;
 #[allow(dead_code)]
 mod generator;
 #[allow(dead_code)]
 mod oracle;
 
+use command_line::{contents, fail, parsed};
 use generator::{answer, fields, Entry, Generator};
 use oracle::{recorded, Answer, Recorded, FRONT, WRONG};
 use std::collections::{BTreeMap, BTreeSet};
-use std::io::Write;
-use std::{env, fs, process};
+use std::env;
+
+const NAME: &str = "corpus";
 
 /// How many entries of each refusal are kept at most, per thousand asked for.
 const SHARES: [usize; 17] = [230, 60, 60, 50, 50, 60, 60, 40, 40, 0, 90, 80, 80, 70, 75, 80, 70];
@@ -58,10 +61,7 @@ impl Recorded {
 }
 
 fn write(entries: &[Vec<u8>]) {
-    let out = [(entries.len() as u32).to_be_bytes().to_vec(), entries.concat()].concat();
-    if let Err(error) = std::io::stdout().write_all(&out) {
-        fail(&error.to_string());
-    }
+    command_line::write(&[(entries.len() as u32).to_be_bytes().to_vec(), entries.concat()].concat());
 }
 
 fn write_all(entries: Vec<Recorded>) {
@@ -162,8 +162,7 @@ fn small(seed: u64, count: usize) -> Vec<Recorded> {
 }
 
 fn read(file: &str) -> Vec<Recorded> {
-    let bytes = fs::read(file).unwrap_or_else(|error| fail(&format!("{file}: {error}")));
-    recorded(&bytes).unwrap_or_else(|| fail(&format!("{file}: not a corpus")))
+    recorded(&contents(file)).unwrap_or_else(|| fail(&format!("{file}: not a corpus")))
 }
 
 /// The planted entries are counted apart.
@@ -218,21 +217,12 @@ fn list(entries: &[Recorded]) {
     }
 }
 
-fn fail(message: &str) -> ! {
-    eprintln!("corpus: {message}");
-    process::exit(2)
-}
-
-fn parsed(text: &str) -> u64 {
-    text.parse().unwrap_or_else(|_| fail(&format!("not a number: {text}")))
-}
-
 fn main() {
     let arguments: Vec<String> = env::args().skip(1).collect();
     let arguments: Vec<&str> = arguments.iter().map(String::as_str).collect();
     match arguments[..] {
-        ["make", seed, count] => write_all(make(parsed(seed), parsed(count) as usize)),
-        ["small", seed, count] => write_all(small(parsed(seed), parsed(count) as usize)),
+        ["make", seed, count] => write_all(make(parsed(seed), parsed(count))),
+        ["small", seed, count] => write_all(small(parsed(seed), parsed(count))),
         ["plant", file] => write(&plant(&read(file))),
         ["histogram", file] => histogram(&read(file)),
         ["list", file] => list(&read(file)),

@@ -4,15 +4,13 @@ A file has pairs of fields, a name and then a sheet. As in words.py, its bytes a
 which pair has the name, and what is wrong with a file, is for the proved program to say.
 """
 
-import os
 import re
-import tempfile
 from typing import NamedTuple
 
 import sheet as notation
 import words
 from fields import heads
-from programs import CannotRun, reason, run
+from programs import CannotRun, run_on
 
 NAME, SHEET = 48, 49  # the tags
 LONGEST = 65_535  # bytes of a sheet, since its length has two
@@ -66,24 +64,9 @@ def name_of(word):
     return int(found[1])
 
 
-def call(path, name, files):
-    """What the program writes, to standard output and to standard error. It is lent the bytes in temporary files that have
-    no name but this process's descriptors, so that none is left over, however this ends."""
-    try:
-        with tempfile.TemporaryFile() as customer, tempfile.TemporaryFile() as house:
-            paths = []
-            for file, given in zip((customer, house), files):
-                file.write(given)
-                file.flush()
-                paths.append(f"/proc/{os.getpid()}/fd/{file.fileno()}")
-            return run(path, str(name), *paths)
-    except OSError as error:
-        raise CannotRun(f"a temporary file: {reason(error)}") from None
-
-
 def look(path, name, files):
     """What the program at the path finds: the bytes of a sheet, or a refusal. Files are the bytes of the two."""
-    out, err = call(path, name, files)
+    out, err = run_on(path, str(name), files=files)
     if not out and REFUSED.fullmatch(err):
         return Refused(*map(int, err.split()))
     if not err and len(out) <= LONGEST and any(notation.field(SHEET, out) in given for given in files):

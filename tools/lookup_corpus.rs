@@ -17,37 +17,37 @@
 //! bytes first takes another byte for its first, another for its last, or the part one byte
 //! too short.
 
+use crate::entries::{corpus, four, hex, number, Entry, WRONG};
 use crate::lookup_cases::Case;
 use crate::{lookup, BAD_LENGTH, CUSTOMER, HOUSE, NO_SUCH_NAME, OUT_OF_TURN, SHORT};
-use std::collections::BTreeMap;
-use std::ops::{Range, RangeInclusive};
-use std::{panic, ptr};
+use std::ops::Range;
+use std::ptr;
 
-/// What stands before an entry's files; in it the four numbers and what is planted.
-const FRONT: usize = 20;
-const NUMBERS: Range<usize> = 9..19;
-const PLANTED: usize = 19;
-/// What is planted: a wrong number, or a change of the part.
-const WRONG: u8 = 1;
-const PARTS: RangeInclusive<u8> = 2..=4;
-/// Each change of the part is planted so often.
-const OFTEN: usize = 2;
 /// Only entries with shorter files have copies.
 const LONG: usize = 300;
 
-pub struct Entry {
+pub struct Lookup {
     case: Case,
     /// refusal, file, place and size
     numbers: [usize; 4],
     planted: u8,
 }
 
-impl Entry {
-    /// The entry as it stands in the corpus.
+impl Entry for Lookup {
+    const NUMBERS: Range<usize> = 9..19;
+    const PLANTED: usize = 19;
+    /// Each change of the part twice.
+    const OTHERS: &'static [u8] = &[2, 3, 4, 2, 3, 4];
+
+    fn new(front: &[u8], [customer, house]: [&[u8]; 2]) -> Lookup {
+        let case = Case { name: front[0], customer: customer.to_vec(), house: house.to_vec() };
+        let numbers = [9..10, 10..11, 11..15, 15..19].map(|at| number(&front[at]));
+        Lookup { case, numbers, planted: front[Lookup::PLANTED] }
+    }
+
     fn bytes(&self) -> Vec<u8> {
         let Case { name, customer, house } = &self.case;
         let [refusal, file, place, size] = self.numbers;
-        let four = |number: usize| (number as u32).to_be_bytes();
         let mut bytes = vec![*name];
         bytes.extend([four(customer.len()), four(house.len())].concat());
         bytes.extend([refusal as u8, file as u8]);
@@ -55,6 +55,20 @@ impl Entry {
         bytes.push(self.planted);
         bytes.extend([&customer[..], house].concat());
         bytes
+    }
+
+    fn refusal(&self) -> usize {
+        self.numbers[0]
+    }
+
+    fn planted(&self) -> u8 {
+        self.planted
+    }
+
+    /// A part that is changed has two bytes or more.
+    fn may_have_copy(&self) -> bool {
+        let [refusal, _, _, size] = self.numbers;
+        self.case.customer.len().max(self.case.house.len()) < LONG && (refusal != 0 || size >= 2)
     }
 
     /// Whether the lookup gives these numbers and the very part that they state.
@@ -70,78 +84,25 @@ impl Entry {
     }
 }
 
-/// The entries of a corpus, or None if the bytes are not of its form.
-pub fn entries(bytes: &[u8]) -> Option<Vec<Entry>> {
-    let number = |bytes: &[u8]| bytes.iter().fold(0, |number, &byte| number << 8 | usize::from(byte));
-    let count = number(bytes.get(..4)?);
-    let mut rest = &bytes[4..];
-    let mut entries = Vec::new();
-    for _ in 0..count {
-        let front = rest.get(..FRONT)?;
-        let house = FRONT + number(&front[1..5]);
-        let end = house + number(&front[5..9]);
-        let numbers = [number(&front[9..10]), number(&front[10..11]), number(&front[11..15]), number(&front[15..19])];
-        let (customer, house) = (rest.get(FRONT..house)?.to_vec(), rest.get(house..end)?.to_vec());
-        entries.push(Entry { case: Case { name: front[0], customer, house }, numbers, planted: front[PLANTED] });
-        rest = &rest[end..];
-    }
-    rest.is_empty().then_some(entries)
-}
-
-fn corpus(entries: Vec<Vec<u8>>) -> Vec<u8> {
-    [(entries.len() as u32).to_be_bytes().to_vec(), entries.concat()].concat()
-}
-
 /// A corpus of these cases with what the lookup gives them.
 pub fn answered(cases: Vec<Case>) -> Vec<u8> {
     let bytes = |case: Case| {
         let numbers = lookup(case.name, &case.customer, &case.house).numbers();
-        Entry { case, numbers, planted: 0 }.bytes()
+        Lookup { case, numbers, planted: 0 }.bytes()
     };
     corpus(cases.into_iter().map(bytes).collect())
 }
 
-/// The entries, some of them followed by a copy with something planted. Each byte of the
-/// four numbers is wrong in one copy of a found entry, in its lowest bit, and in one of a
-/// refused entry, in its highest; changes of the part go to found entries whose part has two
-/// bytes or more. The copies are spread evenly. None if there are too few entries.
-pub fn planted(entries: &[Entry]) -> Option<Vec<u8>> {
-    let mut copies = BTreeMap::new();
-    for (found, bit) in [(true, 0x01), (false, 0x80)] {
-        let fits = |entry: &Entry| {
-            let [refusal, _, _, size] = entry.numbers;
-            let short = entry.case.customer.len().max(entry.case.house.len()) < LONG;
-            entry.planted == 0 && short && if found { refusal == 0 && size >= 2 } else { refusal != 0 }
-        };
-        let mut changes: Vec<(usize, u8, u8)> = NUMBERS.map(|byte| (byte, bit, WRONG)).collect();
-        if found {
-            changes.extend((0..OFTEN).flat_map(|_| PARTS.map(|part| (PLANTED, 0, part))));
-        }
-        let fitting: Vec<usize> = (0..entries.len()).filter(|&at| fits(&entries[at])).collect();
-        for (index, &(byte, bit, planted)) in changes.iter().enumerate() {
-            let at = *fitting.get((2 * index + 1) * fitting.len() / (2 * changes.len()))?;
-            let mut copy = entries[at].bytes();
-            copy[byte] ^= bit;
-            copy[PLANTED] = planted;
-            if copies.insert(at, copy).is_some() {
-                return None;
-            }
-        }
-    }
-    let with_copy = |(at, entry): (usize, &Entry)| [Some(entry.bytes()), copies.remove(&at)];
-    Some(corpus(entries.iter().enumerate().flat_map(with_copy).flatten().collect()))
-}
-
 /// The planted entries are counted apart.
-pub fn histogram(all: &[Entry]) {
-    let (entries, planted): (Vec<&Entry>, Vec<&Entry>) = all.iter().partition(|entry| entry.planted == 0);
+pub fn histogram(all: &[Lookup]) {
+    let (entries, planted): (Vec<&Lookup>, Vec<&Lookup>) = all.iter().partition(|entry| entry.planted == 0);
     let bytes: usize = entries.iter().map(|entry| entry.bytes().len()).sum();
     println!("{} entries, {} bytes", entries.len(), bytes + 4);
     if !planted.is_empty() {
         let wrong = planted.iter().filter(|entry| entry.planted == WRONG).count();
         println!("planted besides: {wrong} with a wrong number, {} with a wrong part", planted.len() - wrong);
     }
-    let count = |test: &dyn Fn(&Entry) -> bool| entries.iter().filter(|entry| test(entry)).count();
+    let count = |test: &dyn Fn(&Lookup) -> bool| entries.iter().filter(|entry| test(entry)).count();
     println!("| refusal | customer's file | house's file |\n|---|---|---|");
     for refusal in [0, SHORT, OUT_OF_TURN, BAD_LENGTH, NO_SUCH_NAME] {
         let of = |file: u8| count(&|entry| entry.numbers[..2] == [refusal.into(), file.into()]);
@@ -156,37 +117,10 @@ pub fn histogram(all: &[Entry]) {
     println!("longest customer's file {customer} bytes, longest house's file {house} bytes");
 }
 
-/// An empty file is shown as a dash.
-pub fn list(entries: &[Entry]) {
-    let hex = |bytes: &[u8]| match bytes {
-        [] => String::from("-"),
-        _ => bytes.iter().map(|byte| format!("{byte:02X}")).collect(),
-    };
-    for Entry { case, numbers: [refusal, file, place, size], planted } in entries {
+pub fn list(entries: &[Lookup]) {
+    for Lookup { case, numbers: [refusal, file, place, size], planted } in entries {
         let planted = if *planted == 0 { String::new() } else { format!(" planted {planted}") };
         let (customer, house) = (hex(&case.customer), hex(&case.house));
         println!("{} {refusal} {file} {place} {size} {customer} {house}{planted}", case.name);
-    }
-}
-
-/// How many entries are answered otherwise, and how many end in a panic.
-fn changed(entries: &[&Entry]) -> (usize, usize) {
-    let (mut otherwise, mut panics) = (0, 0);
-    for entry in entries {
-        match panic::catch_unwind(|| entry.is_answered()) {
-            Ok(answered) => otherwise += usize::from(!answered),
-            Err(_) => panics += 1,
-        }
-    }
-    (otherwise, panics)
-}
-
-pub fn compare(entries: &[Entry]) {
-    let (wrong, right): (Vec<&Entry>, Vec<&Entry>) = entries.iter().partition(|entry| entry.planted == WRONG);
-    panic::set_hook(Box::new(|_| {}));
-    let (otherwise, panics) = changed(&right);
-    println!("{otherwise} of {} entries are answered otherwise, {panics} end in a panic", right.len());
-    if !wrong.is_empty() {
-        println!("{} of {} with a wrong number are answered otherwise", changed(&wrong).0, wrong.len());
     }
 }

@@ -2,6 +2,7 @@
 
 import os
 import subprocess
+import tempfile
 import time
 
 ROOT = os.path.dirname(os.path.dirname(os.path.realpath(__file__)))
@@ -109,3 +110,18 @@ def run(path, *arguments, given=b""):
     if ended.returncode > 0:
         raise CannotRun(f"target/bin/{name} ended with status {ended.returncode}")
     return ended.stdout, ended.stderr
+
+
+def run_on(path, *arguments, files):
+    """What the program writes that is called with two files behind the arguments. It is lent their bytes in temporary files
+    that have no name but this process's descriptors, so that none is left over, however this ends."""
+    try:
+        with tempfile.TemporaryFile() as one, tempfile.TemporaryFile() as two:
+            paths = []
+            for file, given in zip((one, two), files):
+                file.write(given)
+                file.flush()
+                paths.append(f"/proc/{os.getpid()}/fd/{file.fileno()}")
+            return run(path, *arguments, *paths)
+    except OSError as error:
+        raise CannotRun(f"a temporary file: {reason(error)}") from None

@@ -16,7 +16,7 @@ sys.dont_write_bytecode = True
 
 from slips import Program
 
-MODULES = ("lookup_cases", "lookup_corpus", "lookup_files", "lookup_random", "random")
+MODULES = ("command_line", "entries", "lookup_cases", "lookup_corpus", "lookup_files", "lookup_random", "random")
 SHELVES = Program("shelves", MODULES, "--edition", "2021")
 
 slip, same = SHELVES.slip, SHELVES.same

@@ -11,15 +11,18 @@
 //!     shelves list FILE                   each entry as text: its name and numbers, then the files
 //!     shelves corpus FILE                 the entries that are answered otherwise
 //!
-//! lookup_corpus.rs describes the corpus, lookup_cases.rs has the cases. Sentences in
-//! quotation marks are those of the specification.
+//! lookup_corpus.rs describes the corpus, lookup_cases.rs has the cases; entries.rs and command_line.rs
+//! have what serves other programs too. Sentences in quotation marks are those of the specification.
 
+mod command_line;
+mod entries;
 mod lookup_cases;
 mod lookup_corpus;
 
-use lookup_corpus::Entry;
+use command_line::{contents, fail, parsed, write};
+use lookup_corpus::Lookup;
+use std::env;
 use std::ops::Range;
-use std::{env, fs, io, process};
 
 pub const SHORT: u8 = 1;
 pub const OUT_OF_TURN: u8 = 2;
@@ -107,29 +110,11 @@ pub fn lookup<'a>(name: u8, customer: &'a [u8], house: &'a [u8]) -> Found<'a> {
 
 // ---- the command line
 
-fn fail(message: &str) -> ! {
-    eprintln!("shelves: {message}");
-    process::exit(2)
+fn read(file: &str) -> Vec<Lookup> {
+    entries::read(&contents(file)).unwrap_or_else(|| fail(&format!("{file}: not a corpus of lookups")))
 }
 
-fn contents(file: &str) -> Vec<u8> {
-    fs::read(file).unwrap_or_else(|error| fail(&format!("{file}: {error}")))
-}
-
-fn entries(file: &str) -> Vec<Entry> {
-    lookup_corpus::entries(&contents(file)).unwrap_or_else(|| fail(&format!("{file}: not a corpus of lookups")))
-}
-
-fn write(corpus: &[u8]) {
-    if let Err(error) = io::Write::write_all(&mut io::stdout(), corpus) {
-        fail(&error.to_string());
-    }
-}
-
-fn parsed<T: std::str::FromStr>(text: &str) -> T {
-    text.parse().unwrap_or_else(|_| fail(&format!("not a number, or too large: {text}")))
-}
-
+const NAME: &str = "shelves";
 const USAGE: &str = "usage: shelves find NAME CUSTOMER HOUSE | make SEED COUNT | plant, histogram, list or corpus FILE";
 
 fn main() {
@@ -143,11 +128,11 @@ fn main() {
         }
         ["make", seed, count] => write(&lookup_corpus::answered(lookup_cases::all(parsed(seed), parsed(count)))),
         ["plant", file] => {
-            write(&lookup_corpus::planted(&entries(file)).unwrap_or_else(|| fail("too few entries to plant among")));
+            write(&entries::planted(&read(file)).unwrap_or_else(|| fail("too few entries to plant among")));
         }
-        ["histogram", file] => lookup_corpus::histogram(&entries(file)),
-        ["list", file] => lookup_corpus::list(&entries(file)),
-        ["corpus", file] => lookup_corpus::compare(&entries(file)),
+        ["histogram", file] => lookup_corpus::histogram(&read(file)),
+        ["list", file] => lookup_corpus::list(&read(file)),
+        ["corpus", file] => entries::compare(&read(file)),
         _ => fail(USAGE),
     }
 }

@@ -21,6 +21,8 @@ import tempfile
 
 TOOLS = os.path.dirname(os.path.abspath(__file__))
 SECONDS = 60
+# stands between the texts of two files
+BREAK = "\0"
 
 
 def edited(text, name, edits):
@@ -34,11 +36,16 @@ def edited(text, name, edits):
 class Program:
     """A program of tools/ that answers a corpus, and the changes of its text that are tried."""
 
-    def __init__(self, name, modules, *options):
+    def __init__(self, name, modules, *options, edited=()):
+        """The program's own file is edited, or the modules that are named so; `text` is theirs, one behind the other."""
         self.name, self.modules, self.options = name, modules, options  # options of the compiler
         self.slips, self.same_rules = [], []
-        with open(os.path.join(TOOLS, f"{name}.rs"), encoding="utf-8") as file:
-            self.text = file.read()
+        self.edited = edited or (name,)
+        texts = []
+        for part in self.edited:
+            with open(os.path.join(TOOLS, f"{part}.rs"), encoding="utf-8") as file:
+                texts.append(file.read())
+        self.text = BREAK.join(texts)
 
     def slip(self, name, what, *edits):
         self.slips.append((name, what, edits))
@@ -50,8 +57,9 @@ class Program:
     def compiled(self, text, folder):
         """The program of this text."""
         source, program = os.path.join(folder, f"{self.name}.rs"), os.path.join(folder, self.name)
-        with open(source, "w", encoding="utf-8") as file:
-            file.write(text)
+        for part, own in zip(self.edited, text.split(BREAK)):
+            with open(os.path.join(folder, f"{part}.rs"), "w", encoding="utf-8") as file:
+                file.write(own)
         # not optimised: compiling takes longer than the corpus
         compiler = subprocess.run(["rustc", *self.options, "-C", "overflow-checks=off", "-A", "warnings", "-o", program, source],
                                   capture_output=True, text=True)

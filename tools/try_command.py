@@ -1,11 +1,12 @@
 #!/usr/bin/env python3
 """Tries ./zumbeiry check: on every sheet of sheets/, as text and as bytes, and on inputs that are broken on purpose. Then
-building, by try_building.py, ./zumbeiry find, by try_find.py, and tools/shelf_file.py, by try_shelf_file.py.
+building, by try_building.py, ./zumbeiry find, by try_find.py, tools/shelf_file.py, by try_shelf_file.py, and ./zumbeiry
+follow, by try_follow.py.
 
     python3 tools/try_command.py
 
-The command first builds target/bin/label_main and target/bin/shelf_main, if need be. The last line is
-'N passed, 0 failed'.
+The command first builds target/bin/label_main, target/bin/shelf_main and target/bin/record_main, if need be. The last
+line is 'N passed, 0 failed'.
 """
 
 import os
@@ -16,13 +17,15 @@ import tempfile
 
 sys.dont_write_bytecode = True
 
+import follower
 import lookup
 import sheet
 import try_building
 import try_find
+import try_follow
 import try_shelf_file
 import words
-from calls import B, Call, ROOT, cannot, copied, counts, expect, in_folder
+from calls import B, Call, ROOT, cannot, copied, counts, expect, in_folder, text_of
 
 HEAD = "limit 10\nbudget 100\nlabel 0..10\nlocks 1\nvar 0..0\n"  # lines 1 to 5
 
@@ -186,10 +189,10 @@ def try_usage(folder):
 
 
 def try_readme():
-    with open(os.path.join(ROOT, "README.md"), encoding="utf-8") as readme:
-        text = readme.read()
+    text = text_of("README.md")
     rows = re.findall(r"^\| (\d+) (.+) \| (.+) \| (.+) \|$", text, re.MULTILINE)
-    for verb, refusals in (("check", words.REFUSALS), ("find", lookup.REFUSALS)):
+    tables = {"check": words.REFUSALS, "find": lookup.REFUSALS, "follow": follower.REFUSALS}
+    for verb, refusals in tables.items():
         table = [(str(number), *row) for number, row in refusals.items()]
         expect(f"README's table of refusals is that of {verb}", [row for row in rows if row in table] == table, rows)
     sums = re.findall(r"^\| (\d) \| (\d+) \| ([\d,]+) \|$", text, re.MULTILINE)
@@ -198,7 +201,8 @@ def try_readme():
 
 
 def main():
-    for arguments in (["check", "sheets/B.txt"], ["find", "--check", "10", *try_find.EXAMPLES]):
+    follow = ["follow", "sheets/B.txt", "sheets/B-at-3.rec"]
+    for arguments in (["check", "sheets/B.txt"], ["find", "--check", "10", *try_find.EXAMPLES], follow):
         subprocess.run([os.path.join(ROOT, "zumbeiry"), *arguments], cwd=ROOT)
     with tempfile.TemporaryDirectory() as folder:
         try_sheets(folder)
@@ -212,6 +216,7 @@ def main():
         try_readme()
         try_find.try_all(folder, copy)
         try_shelf_file.try_all(folder)
+        try_follow.try_all(folder, copy)
     print(f"{counts[True]} passed, {counts[False]} failed")
     return 1 if counts[False] else 0
 

@@ -6,7 +6,7 @@ import re
 import subprocess
 import sys
 
-from calls import B, Call, ROOT, cannot, expect, in_folder, stand_in
+from calls import B, Call, ROOT, as_in_readme, cannot, expect, in_folder, stand_in, text_of
 from sheet import field
 from shelf_file import pair
 
@@ -142,20 +142,6 @@ def try_checks(folder, name, numbers):
     expect(f"{alone.what}: the numbers alone", alone.out == numbers + "\n" and alone.err == "", alone.out)
 
 
-def text_of(*parts):
-    with open(os.path.join(ROOT, *parts), encoding="utf-8") as file:
-        return file.read()
-
-
-def try_readme():
-    """README's examples are followed by what they write."""
-    examples = re.findall(r"^    \./zumbeiry (find .*)\n\n((?:    .*\n)+)", text_of("README.md"), re.MULTILINE)
-    expect("README.md has two examples of find", len(examples) == 2, examples)
-    for command, shown in examples:
-        call = Call(*command.split())
-        expect(f"{call.what}: as in README.md", call.out + call.err == re.sub("(?m)^    ", "", shown), call.out + call.err)
-
-
 def try_examples(folder):
     """The two files are made by the commands of sheets/README.md, and each name gives what stands there."""
     text = text_of("sheets", "README.md")
@@ -225,6 +211,6 @@ def try_all(folder, copy):
     try_files(folder)
     try_longest(folder)
     try_usage(folder)
-    try_readme()
+    as_in_readme("find", 2)
     try_examples(folder)
     try_answers(folder, copy)

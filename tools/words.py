@@ -52,11 +52,13 @@ REFUSALS = {
         "a result may leave the 32-bit values (the number may be too large for the board)",
         "narrow the ranges, or test the registers first, with < in an if of its own",
     ),
+    21: ("not a run", "what the machine recorded is not a run of the sheet (follow alone gives this)", "see what follow says"),
 }
 
-# the refusals that name a field, and those of the search
+# the refusals that name a field, those of the search, and the last that a check gives
 PLACED = (1, 2, 3, 4, 5, 6, 7, 8, 10, 16)
 FIRST_OF_SEARCH = 10
+LAST_OF_CHECK = 16
 
 CODES = ("halt", "skip", "assign", "if", "store", "load", "unlock", "lock")
 
@@ -164,6 +166,11 @@ def text_lines(answer, text, places):
     return [line if len(line) <= 120 else line[:117] + "..." for line in shown]
 
 
+def sheet_lines(answer, sheet, text, places):
+    """Where the fault is in a sheet, in its text and in its bytes."""
+    return text_lines(answer, text, places) + place_lines(answer, sheet, Walk()) if answer.refusal in PLACED else []
+
+
 def enough(threads, limit):
     """The budget that never meets 13, whatever the routine: the sum of the powers of twice the threads from power 0 to power
     threads times limit (crates/rules/specs/Budget.antt); None if a sheet may not have one as large."""
@@ -223,9 +230,7 @@ def explain(answer, sheet, text=(), places=()):
         _, _, low, high = head(sheet)
         runs = f"every run finishes {window(answer.low, answer.high)}, inside the label {low}..{high}"
         return [f"accepted: {runs}; the search took {number(answer.steps, 'state')}"]
-    lines = []
-    if answer.refusal in PLACED:
-        lines += text_lines(answer, text, places) + place_lines(answer, sheet, Walk())
+    lines = sheet_lines(answer, sheet, text, places)
     if answer.refusal >= FIRST_OF_SEARCH:
         lines += search_lines(answer, sheet)
     return refused(answer.refusal, REFUSALS[answer.refusal], lines)

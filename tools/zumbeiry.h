@@ -1,6 +1,7 @@
 /*
- * The library's two calls. `rt staticlib label` writes target/staticlib/liblabel.a, with zumbeiry_check, and `rt staticlib shelf`
- * writes target/staticlib/libshelf.a, with zumbeiry_find (x86-64). A program links the archive of the call that it makes.
+ * The library's three calls. `rt staticlib label` writes target/staticlib/liblabel.a, with zumbeiry_check, `rt staticlib shelf`
+ * writes target/staticlib/libshelf.a, with zumbeiry_find, and `rt staticlib record` target/staticlib/librecord.a, with
+ * zumbeiry_follow (x86-64). A program links the archive of the call that it makes.
  */
 #ifndef ZUMBEIRY_H
 #define ZUMBEIRY_H
@@ -69,6 +70,38 @@ uint32_t zumbeiry_find(uint8_t name,
                        const uint8_t *customer, size_t customer_length,
                        const uint8_t *house, size_t house_length,
                        uint64_t *answer, size_t answer_length);
+
+/*
+ * Follows the record of a job through its sheet. A record has a starting value (tag 32, length 4) for each variable and then for
+ * each register of each thread, in the sheet's order; behind them, to its end, an event (tag 33, length 3: the thread, then the
+ * recorder's clock in two bytes) for each end of a statement. The first refusal ends the following.
+ *
+ * Five numbers go to answer[0] to answer[4], in this order:
+ *
+ *     refusal   0: the record is a run of the sheet that leaves a state; of the sheet, 1 to 9: it does not read, as in
+ *               zumbeiry_check; of the record, 9: it has more than 65,536 bytes; 1: it ends inside a field, or where a starting
+ *               value is due; 2: a tag that is not due; 3: a length that is not the tag's; 4: a starting value outside its range;
+ *               5: no such thread; 21: not an event of the run; 10 or 16: an event whose arithmetic has no result, for a divisor
+ *               0 or for its size
+ *     file      0: the sheet; 1: the record; of the field at fault, for refusal 0 the sheet
+ *     place     the offset in that file of the field at fault; for refusals 0 and 9 it is 0
+ *     finished  1: every thread stands at halt; 0: not so, or refused
+ *     tick      the full tick of the last event, 0 if there is none or where it is refused
+ *
+ * It is proved that a finished record of a sheet that zumbeiry_check accepts, with whichever work buffer, ends inside the sheet's
+ * label, and that the clock's sixteen bits suffice: no two successive events of a run are more than 65,535 ticks apart.
+ *
+ * An array of fewer than five numbers is left as it is, and the numbers after the fifth too. The refusal is returned.
+ *
+ * Sheet and record may have any length and are only read; the two may overlap. Nothing is allocated or kept between calls:
+ * threads may call at the same time, each with its own answer. A call needs stack: docs/PERFORMANCE.md has the size.
+ *
+ * The caller sees to it that each pointer has that many readable (answer: writable) numbers, aligned for their type and not null
+ * even where the length is 0, and that the answer overlaps neither sheet nor record.
+ */
+uint32_t zumbeiry_follow(const uint8_t *sheet, size_t sheet_length,
+                         const uint8_t *record, size_t record_length,
+                         uint64_t *answer, size_t answer_length);
 
 #ifdef __cplusplus
 }

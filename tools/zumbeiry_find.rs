@@ -1,5 +1,5 @@
 //! zumbeiry_find for Rust; zumbeiry.h says what it promises. It links libshelf.a, and is a file of its own so that a program
-//! that makes one of the two calls needs that call's archive alone.
+//! that makes one of the three calls needs that call's archive alone.
 
 #[link(name = "shelf", kind = "static")]
 extern "C" {

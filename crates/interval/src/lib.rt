@@ -156,7 +156,7 @@ pub fn equal(a: Val, b: Val) -> bool
 }
 
 // Whether a value lies on a span.
-fn holds(s: Span, a: Val) -> bool
+pub fn holds(s: Span, a: Val) -> bool
     ensures { λ r. ⌜ r ≡ holds (intervalOf s) (a .0) ⌝ }
 {
     if at_most(s.low, a) {

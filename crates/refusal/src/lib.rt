@@ -20,6 +20,7 @@ pub enum Refusal {
     OutOfRoom,
     LabelBroken,
     OffScale,
+    NotRun,
 }
 
 // The number that 01 or 02 gives a refusal; no refusal has 0.
@@ -43,5 +44,6 @@ pub fn number_of(r: Refusal) -> u32
         Refusal::OutOfRoom => 14,
         Refusal::LabelBroken => 15,
         Refusal::OffScale => 16,
+        Refusal::NotRun => 21,
     }
 }

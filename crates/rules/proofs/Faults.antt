@@ -69,7 +69,7 @@ get-single [] r = refl
 get-single (z ∷ zs) zero = refl
 get-single (z ∷ zs) (suc r) = get-single zs r
 
-evaluate-single : (a : Arith) (zs : List ℤ) → evaluate a (map single zs) ≡ singleOf (valueOf a zs)
+pub evaluate-single : (a : Arith) (zs : List ℤ) → evaluate a (map single zs) ≡ singleOf (valueOf a zs)
 unfolding evaluate valueOf
 evaluate-single (constant z) zs = refl
 evaluate-single (register r) zs = ap value (get-single zs r)
@@ -99,7 +99,7 @@ and-single f (fault r) w = refl
 and-single f (value a) (fault r) = refl
 and-single f (value a) (value b) = refl
 
-parts-single : (c : Condition) (zs : List ℤ) → allParts c (map single zs) ≡ hasTruth (truthOf c zs)
+pub parts-single : (c : Condition) (zs : List ℤ) → allParts c (map single zs) ≡ hasTruth (truthOf c zs)
 unfolding allParts truthOf
 parts-single always zs = refl
 parts-single never zs = refl

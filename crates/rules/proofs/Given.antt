@@ -19,11 +19,11 @@ pub data OfArithmetic : Refusal → Type 0 where
   zero-divisor : OfArithmetic noReading
   off-the-scale : OfArithmetic offScale
 
-abbrev ArithmeticOnly : {A : Type 0} → Result A → Type 0
+abbrev pub ArithmeticOnly : {A : Type 0} → Result A → Type 0
 ArithmeticOnly (value a) = Unit {0}
 ArithmeticOnly (fault r) = OfArithmetic r
 
-both-arithmetic : {A B C : Type 0} (f : A → B → Result C) → ((a : A) (b : B) → ArithmeticOnly (f a b)) → (x : Result A) (y : Result B)
+pub both-arithmetic : {A B C : Type 0} (f : A → B → Result C) → ((a : A) (b : B) → ArithmeticOnly (f a b)) → (x : Result A) (y : Result B)
     → ArithmeticOnly x → ArithmeticOnly y → ArithmeticOnly (onBoth f x y)
 unfolding onBoth
 both-arithmetic f k (fault r) y h l = h

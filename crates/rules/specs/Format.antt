@@ -2,12 +2,12 @@
 -- says no to"). Every reader takes the whole sheet and a place in it.
 use mathlib.Core.Bool.{Bool, true, false, _&&_, not}
 use mathlib.Core.List.{List, [], _∷_, _++_}
-use Prim.Native.Nat.{ℕ, zero, suc, _+_, _-_, _*_}
+use Prim.Native.Nat.{ℕ, zero, suc, _+_, _-_, _*_, _<_}
 use lib.Dec.{leb, ltb, eqb}
 use lib.IntN.{ℤ, pos, negsuc}
 use lib.Signed.{leZ}
 use lib.ListN.{length, getD}
-use Rattle.rules.specs.Base.{if_then_else_}
+use Rattle.rules.specs.Base.{if_then_else_, Each}
 use Rattle.rules.specs.Refusal.{Refusal, short, outOfTurn, badLength, offRange, noSuchName, badExpression, noHalt, tooMany, tooLong}
 use Rattle.rules.specs.Constants.{longestSheet, deepest, mostVariables, mostRegisters, mostLocks, mostThreads, mostStatements, greatestLimit, greatestBudget}
 use Rattle.rules.specs.Interval.{Interval, interval, Operator, plus, minus, times, divide}
@@ -16,6 +16,10 @@ use Rattle.rules.specs.Program.{Action, halt, skip, assign, branch, stor
 
 abbrev pub Bytes : Type 0
 Bytes = List ℕ
+
+-- every number of a file is one byte's
+abbrev pub AreBytes : Bytes → Type 0
+AreBytes s = Each (λ b. b < 256) s
 
 -- what a reader gives: a value and the place behind it, or a refusal and the place at fault
 pub data Got (A : Type 0) : Type 0 where

@@ -3,21 +3,17 @@ use mathlib.Core.Path.{_≡_, refl, sym, ap, subst, _∙_}
 use mathlib.Core.Bool.{true, false}
 use mathlib.Core.Option.{Option, none}
 use mathlib.Core.List.{List, [], _∷_}
-use Prim.Native.Nat.{ℕ, zero, suc, _+_, _≤_, _<_}
-use native.Mathlib.Omega.{arith}
+use Prim.Native.Nat.{ℕ, zero, suc, _<_}
 use lib.Dec.{eqb, eqb·suc-suc}
-use lib.ListN.{length, getD, set}
+use lib.ListN.{getD, set}
 use lib.Seq.{set-getD}
 use lib.IntN.{ℤ}
 use borrow.Author.Tests.{eq-eqb, ne-eqb}
 use Rattle.rules.specs.Base.{if_then_else_}
-use Rattle.rules.specs.Constants.{deepest, mostStatements, mostRegisters, mostVariables, mostLocks}
 use Rattle.rules.specs.Refusal.{value, fault}
 use Rattle.rules.specs.Program as P
-use Rattle.rules.specs.Program.{isHalt, Statement}
 use Rattle.rules.specs.Lock.{mayTake, afterUnlock, afterLock}
 use Rattle.rules.specs.Expression.{Regs, evaluate, allParts, narrowYes, narrowNo}
-use Rattle.rules.specs.Format.{Bytes, Names, got, readArith, readCondition}
 use Rattle.rules.specs.Search as S
 use Rattle.rules.specs.Search.{effect, fromValue, branches, unlessEmpty}
 use Rattle.refusal.specs.Shape.{ruleOf}
@@ -26,24 +22,17 @@ use Rattle.refusal.specs.declared.Refusal.{Refusal}
 use Rattle.interval.specs.declared.Span.{Span}
 use Rattle.interval.specs.Shape.{intervalOf}
 use Rattle.expression.specs.Evaluation.{regsOf}
-use Rattle.reader.specs.Decoded.{bodyEnd, actionOf}
-use Rattle.reader.specs.Facts.{Named, Targets, Expresses}
-use Rattle.reader.specs.declared.decoding.Action.{Action}
-use Rattle.reader.specs.declared.decoding.Action.the-variants.{Halt, Skip, Assign, Branch, Store, Load, Unlock, Lock}
 use Rattle.state.specs.declared.Thread.{Thread}
 use Rattle.state.specs.declared.State.{State}
 use Rattle.state.specs.declared.moves.Move.{Move}
 use Rattle.state.specs.Access.{threadAt, ownerAt, withVar, withOwner}
 use Rattle.state.specs.Move.{MoveFits, movedTo}
-use Rattle.state.specs.Shape.{Sizes, ownerOf, threadOf, sizesOf, stateOf}
-use Rattle.state.proofs.Shape.{state-owner, moved-state, moved-var-state, moved-owner-state, sizes-regs}
-use Rattle.search.specs.declared.fetch.Fetched.{Fetched}
+use Rattle.state.specs.Shape.{Sizes, ownerOf, threadOf, stateOf}
+use Rattle.state.proofs.Shape.{state-owner, moved-state, moved-var-state, moved-owner-state}
 use Rattle.search.specs.declared.act.Event.{Event}
 use Rattle.search.specs.declared.act.Acted.the-variants as acted
-use Rattle.search.specs.Plan.{programIn}
-use Rattle.search.specs.Fetch.{namesOf, Fetches}
 use Rattle.search.specs.Push.{Pushed}
-use Rattle.search.specs.Act.{Ticks, OfProgram, Acts, moveTo, movedBy, movedWith}
+use Rattle.search.specs.Act.{Ticks, Acts, moveTo, movedBy, movedWith}
 use Rattle.search.proofs.PushLaws.{then-pushed}
 
 -- ---- owners
@@ -157,80 +146,3 @@ module _ (z : Sizes) (slots : ℕ) (b : List ℤ) (h : ℕ) (s : State) (v : Eve
         let q′ : Pushed z slots c d k m (unlessEmpty (λ rs. movedBy z s v to rs) (narrowYes a (regsOf (v .registers) (x .regs)))) =
         subst (λ (o : Option Regs). Pushed z slots c d k m (unlessEmpty (λ rs. movedBy z s v to rs) o)) (ap taken n ∙ ey) q in
         rw (sym e) (m, refl, then-pushed p′ q′)
-
--- ---- the statement that was fetched
-
--- the code's action k is the rules' action x, with what is known of it
-abbrev pub Means : Bytes → Names → ℕ → ℕ → Action → P.Action → Type 0
-Means s ns p e Halt x = x ≡ P.halt
-Means s ns p e Skip x = x ≡ P.skip
-Means s ns p e (Assign r at end) x = (a : P.Arith) × ((x ≡ P.assign r a) × ((r < ns .regs) × ((end ≡ e) × (readArith deepest s end (ns .regs) at ≡ got a end))))
-Means s ns p e (Branch t at end) x = (a : P.Condition) × ((x ≡ P.branch t a) × ((t < mostStatements) × ((end ≡ e) × (readCondition deepest s end (ns .regs) at ≡ got a end))))
-Means s ns p e (Store r k) x = (x ≡ P.store r k) × ((r < ns .regs) × (k < ns .vars))
-Means s ns p e (Load r k) x = (x ≡ P.load r k) × ((r < ns .regs) × (k < ns .vars))
-Means s ns p e (Unlock l) x = (x ≡ P.unlock l) × (l < ns .locks)
-Means s ns p e (Lock l) x = (x ≡ P.lock l) × (l < ns .locks)
-
-module _ (s : Bytes) (ns : Names) where
-  means : (p e : ℕ) (a : P.Action) → Named ns a → Targets mostStatements a → Expresses s (ns .regs) p e a → Means s ns p e (actionOf p e a) a
-  unfolding actionOf
-  means p e P.halt n t x = refl
-  means p e P.skip n t x = refl
-  means p e (P.assign r a) n t x = (a, (refl, (n, (refl, x))))
-  means p e (P.branch to c) n t x = (c, (refl, (t, (refl, x))))
-  means p e (P.store r v) n t x = (refl, n)
-  means p e (P.load r v) n t x = (refl, n)
-  means p e (P.unlock l) n t x = (refl, n)
-  means p e (P.lock l) n t x = (refl, n)
-
-  pub fetched : (at : ℕ) (x : Statement) (f : Fetched) (k : Action) → Fetches s ns at x f → f .action ≡ k → Means s ns (x .place + 9) (bodyEnd s (x .place)) k (x .action)
-  fetched at x f k w e =
-      subst (λ (i : Action). Means s ns (x .place + 9) (bodyEnd s (x .place)) i (x .action)) (sym (w .action) ∙ e)
-      (means (x .place + 9) (bodyEnd s (x .place)) (x .action) (w .named) (w .targets) (w .expresses))
-
-pub sizes-are : (s : Bytes) (v : Event) → OfProgram (programIn s) v → getD (sizesOf (programIn s) .regs) (v .thread) 0 ≡ v .registers
-sizes-are s v o = sizes-regs (programIn s) (v .thread) ∙ sym (o .registers)
-
--- what each arm asks
-module _ (s : Bytes) (v : Event) (at : ℕ) (x : Statement) (f : Fetched) (o : OfProgram (programIn s) v) (w : Fetches s (namesOf (programIn s) (v .thread)) at x f) where
-  pub skip-asks : f .action ≡ Skip → at < mostStatements
-  unfolding isHalt
-  skip-asks e = w .inside (ap isHalt (fetched s (namesOf (programIn s) (v .thread)) at x f Skip w e))
-
-  pub assign-asks : (r p e : ℕ) → f .action ≡ Assign r p e → (at < mostStatements) × ((r < mostRegisters) × ((v .registers ≤ mostRegisters) × (e ≤ length s)))
-  unfolding isHalt
-  assign-asks r p e k =
-      let m = fetched s (namesOf (programIn s) (v .thread)) at x f (Assign r p e) w k in
-      let live : isHalt (x .action) ≡ false = ap isHalt (m .1 .0) in
-      (w .inside live, (omega (arith, m .1 .1 .0, o .registers, o .regs-few), (o .regs-few, omega (arith, m .1 .1 .1 .0, w .body live))))
-
-  pub branch-asks : (t p e : ℕ) → f .action ≡ Branch t p e → (at < mostStatements) × ((t < mostStatements) × ((v .registers ≤ mostRegisters) × (e ≤ length s)))
-  unfolding isHalt
-  branch-asks t p e k =
-      let m = fetched s (namesOf (programIn s) (v .thread)) at x f (Branch t p e) w k in
-      let live : isHalt (x .action) ≡ false = ap isHalt (m .1 .0) in
-      (w .inside live, (m .1 .1 .0, (o .regs-few, omega (arith, m .1 .1 .1 .0, w .body live))))
-
-  pub store-asks : (r k : ℕ) → f .action ≡ Store r k → (at < mostStatements) × ((r < mostRegisters) × (k < mostVariables))
-  unfolding isHalt
-  store-asks r k e =
-      let m = fetched s (namesOf (programIn s) (v .thread)) at x f (Store r k) w e in
-      (w .inside (ap isHalt (m .0)), (omega (arith, m .1 .0, o .registers, o .regs-few), omega (arith, m .1 .1, o .vars-few)))
-
-  pub load-asks : (r k : ℕ) → f .action ≡ Load r k → (at < mostStatements) × ((r < mostRegisters) × (k < mostVariables))
-  unfolding isHalt
-  load-asks r k e =
-      let m = fetched s (namesOf (programIn s) (v .thread)) at x f (Load r k) w e in
-      (w .inside (ap isHalt (m .0)), (omega (arith, m .1 .0, o .registers, o .regs-few), omega (arith, m .1 .1, o .vars-few)))
-
-  pub unlock-asks : (l : ℕ) → f .action ≡ Unlock l → (at < mostStatements) × (l < mostLocks)
-  unfolding isHalt
-  unlock-asks l e =
-      let m = fetched s (namesOf (programIn s) (v .thread)) at x f (Unlock l) w e in
-      (w .inside (ap isHalt (m .0)), omega (arith, m .1, o .locks-few))
-
-  pub lock-asks : (l : ℕ) → f .action ≡ Lock l → (at < mostStatements) × (l < mostLocks)
-  unfolding isHalt
-  lock-asks l e =
-      let m = fetched s (namesOf (programIn s) (v .thread)) at x f (Lock l) w e in
-      (w .inside (ap isHalt (m .0)), omega (arith, m .1, o .locks-few))

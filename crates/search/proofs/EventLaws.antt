@@ -15,17 +15,16 @@ use Rattle.rules.specs.Search as S
 use Rattle.rules.specs.Search.{ThreadState, Live, unread, states, before, effect, events}
 use Rattle.reader.specs.Facts.{threadIn, statementIn}
 use Rattle.reader.specs.Index.{noEntry}
-use Rattle.reader.specs.declared.threads.ThreadEntry.{ThreadEntry}
-use Rattle.reader.proofs.Facts.{thread-in}
 use Rattle.state.specs.Access.{threadAt}
 use Rattle.state.specs.Shape.{Sizes, threadOf, sizesOf, stateOf}
 use Rattle.state.specs.declared.State.{State}
 use Rattle.state.proofs.Shape.{state-thread, state-threads-length, sizes-threads, sizes-regs}
 use Rattle.search.specs.Plan.{Planned}
-use Rattle.search.specs.Fetch.{namesOf, Fetches}
+use Rattle.search.specs.Fetch.{namesOf, Fetches, OfProgram}
+use Rattle.search.proofs.fetch.Asks.{of-program}
 use Rattle.search.specs.Survey.{earliestOf, earliestAt}
 use Rattle.search.specs.Push.{Room}
-use Rattle.search.specs.Act.{Asks, OfProgram, Acts}
+use Rattle.search.specs.Act.{Asks, Acts}
 use Rattle.search.specs.Turn.{liveAfter, Makes, heightOf, overOf, eventOf}
 use Rattle.search.specs.declared.plan.Plan.{Plan}
 use Rattle.search.specs.declared.act.Event.{Event}
@@ -100,35 +99,21 @@ module _ (g : Program) (s : State) (t : ℕ) (there : t < length (g .threads)) (
 
 -- ---- what the code asks of a thread's event, and what it makes of it
 
-registers-are : (bs : Bytes) (g : Program) (p : Plan) (places : List ℕ) → Planned bs g p places → (t : ℕ) → t < length (g .threads)
-    → getD (p .entries) t noEntry .registers ≡ length (threadIn g t .regs)
-registers-are bs g p places r t h = ap (λ (e : ThreadEntry). e .registers) (r .entries t h)
-
 module _ (bs : Bytes) (g : Program) (p : Plan) (places : List ℕ) (r : Planned bs g p places) (s : State) (t : ℕ) (there : t < length (g .threads))
     (from to : ℕ) (f : Fetched) (fetched : Fetches bs (namesOf g t) (threadAt s t .at) (statementIn g t (threadAt s t .at)) f) where
   abbrev its-event : Event
   its-event = eventOf (getD (p .entries) t noEntry .registers) t from to
 
-  of-program : OfProgram g its-event
-  of-program = record {
-    there = there;
-    registers = registers-are bs g p places r t there;
-    threads-few = r .facts .threads-few;
-    regs-few = let a = thread-in (r .facts) t there .regs-few in let b = registers-are bs g p places r t there in omega arith;
-    vars-few = r .facts .vars-few;
-    locks-few = r .facts .locks-few;
-  }
-
   pub act-asks : from ≤ to → to < half32 → (b : List ℤ) (slots height : ℕ) → Room slots b → height ≤ slots + 1 → (v : Event) → v ≡ its-event
-      → Asks v b height slots × (OfProgram g v × ((x : Statement) × Fetches bs (namesOf g (v .thread)) (threadAt s (v .thread) .at) x f))
+      → Asks v b height slots × (OfProgram g (v .thread) (v .registers) × ((x : Statement) × Fetches bs (namesOf g (v .thread)) (threadAt s (v .thread) .at) x f))
   act-asks l u b slots height room high v q =
-      subst (λ (w : Event). Asks w b height slots × (OfProgram g w × ((x : Statement) × Fetches bs (namesOf g (w .thread)) (threadAt s (w .thread) .at) x f))) (sym q) (
+      subst (λ (w : Event). Asks w b height slots × (OfProgram g (w .thread) (w .registers) × ((x : Statement) × Fetches bs (namesOf g (w .thread)) (threadAt s (w .thread) .at) x f))) (sym q) (
         record {
           ticks = record { thread = let a = r .facts .threads-few in omega arith; from-small = omega arith; to-small = u };
           room = room;
           high = high;
         },
-        (of-program, (statementIn g t (threadAt s t .at), fetched)),
+        (of-program bs g p places r t there, (statementIn g t (threadAt s t .at), fetched)),
       )
 
   pub event-makes : length (s .threads) ≡ mostThreads → (latest : ℕ) → from ≡ max latest (earliestAt g s t) → from ≤ to → to < half32
@@ -148,7 +133,7 @@ module _ (bs : Bytes) (g : Program) (p : Plan) (places : List ℕ) (r : Planned 
       let N : S.Next = effect x t (threadOf (length (threadIn g t .regs)) (threadAt s t)) from to action in
       let a₁ : Acts z slots c d height k (effect x t (threadOf (getD (p .entries) t noEntry .registers) (threadAt s t)) from to action) =
       subst (λ (w : Event). Acts z slots c d height k (effect x (w .thread) (threadOf (w .registers) (threadAt s (w .thread))) (w .from .0) (w .to .0) action)) e acts in
-      let a₂ : Acts z slots c d height k N = subst (λ (n : ℕ). Acts z slots c d height k (effect x t (threadOf n (threadAt s t)) from to action)) (registers-are bs g p places r t there) a₁ in
+      let a₂ : Acts z slots c d height k N = subst (λ (n : ℕ). Acts z slots c d height k (effect x t (threadOf n (threadAt s t)) from to action)) (of-program bs g p places r t there .registers) a₁ in
       let a₃ : Acts z slots c d (heightOf later h) k N = subst (λ (n : ℕ). Acts z slots c d n k N) eh a₂ in
       let made : Makes z slots b h d (overOf later k (f .place)) (before (f .place) N T) = over-makes z slots b c d h later T (f .place) k N makes a₃ in
       let same : events x latest to (liveAfter g x t) ≡ before (f .place) N T =

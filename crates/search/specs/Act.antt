@@ -4,8 +4,7 @@ use mathlib.Core.List.{List}
 use Prim.Native.Nat.{ℕ, _+_, _≤_, _<_}
 use lib.ListN.{length, getD}
 use lib.IntN.{ℤ}
-use Rattle.rules.specs.Constants.{half32, mostThreads, mostRegisters, mostVariables, mostLocks}
-use Rattle.rules.specs.Program.{Program}
+use Rattle.rules.specs.Constants.{half32, mostThreads}
 use Rattle.rules.specs.Search as S
 use Rattle.rules.specs.Search.{unread, states, moved}
 use Rattle.rules.specs.Expression.{Regs}
@@ -13,7 +12,6 @@ use Rattle.rules.specs.Interval.{Interval}
 use Rattle.rules.specs.Lock.{Owner}
 use Rattle.expression.specs.Evaluation.{regsOf}
 use Rattle.refusal.specs.Shape.{refusalOf}
-use Rattle.reader.specs.Facts.{threadIn}
 use Rattle.state.specs.Shape.{Sizes, stateOf}
 use Rattle.state.specs.declared.State.{State}
 use Rattle.state.specs.declared.moves.Move.{Move}
@@ -34,15 +32,6 @@ pub record Asks (v : Event) (b : List ℤ) (height slots : ℕ) : Type 0 where
   pub ticks : Ticks v
   pub room : Room slots b
   pub high : height ≤ slots + 1
-
--- the event is one of the program's
-pub record OfProgram (g : Program) (v : Event) : Type 0 where
-  pub there : v .thread < length (g .threads)
-  pub registers : v .registers ≡ length (threadIn g (v .thread) .regs)
-  pub threads-few : length (g .threads) ≤ mostThreads
-  pub regs-few : v .registers ≤ mostRegisters
-  pub vars-few : length (g .vars) ≤ mostVariables
-  pub locks-few : g .locks ≤ mostLocks
 
 -- a fault, or the states on the stack
 abbrev pub Acts : Sizes → ℕ → List ℤ → List ℤ → ℕ → Acted → S.Next → Type 0

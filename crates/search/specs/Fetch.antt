@@ -3,7 +3,7 @@ use mathlib.Core.Path.{_≡_}
 use mathlib.Core.Bool.{Bool, true, false}
 use Prim.Native.Nat.{ℕ, _+_, _≤_, _<_}
 use lib.ListN.{length}
-use Rattle.rules.specs.Constants.{mostStatements}
+use Rattle.rules.specs.Constants.{mostThreads, mostStatements, mostRegisters, mostVariables, mostLocks}
 use Rattle.rules.specs.Program.{isHalt, Statement, Program}
 use Rattle.rules.specs.Format.{Bytes, Names}
 use Rattle.reader.specs.Decoded.{bodyEnd, actionOf}
@@ -39,3 +39,12 @@ pub record Fetches (s : Bytes) (ns : Names) (at : ℕ) (x : Statement) (f : Fetc
   pub expresses : Expresses s (ns .regs) (x .place + 9) (bodyEnd s (x .place)) (x .action)
   pub body : isHalt (x .action) ≡ false → bodyEnd s (x .place) ≤ length s
   pub inside : isHalt (x .action) ≡ false → at < mostStatements
+
+-- t is a thread of the program, with n registers
+pub record OfProgram (g : Program) (t n : ℕ) : Type 0 where
+  pub there : t < length (g .threads)
+  pub registers : n ≡ length (threadIn g t .regs)
+  pub threads-few : length (g .threads) ≤ mostThreads
+  pub regs-few : n ≤ mostRegisters
+  pub vars-few : length (g .vars) ≤ mostVariables
+  pub locks-few : g .locks ≤ mostLocks

@@ -1,5 +1,6 @@
 // The event of one thread: the states that follow go on the stack, the first made uppermost.
 use crate::fetch::Fetched;
+use crate::fetch::next;
 use crate::locking::lock;
 use crate::locking::unlock;
 use crate::push::push_moved;
@@ -21,7 +22,7 @@ use state::registers_of;
 use state::variable_of;
 ghost use mathlib.Core.Path.{_≡_};
 ghost use mathlib.Core.List.{[], _∷_};
-ghost use Prim.Native.Nat.{suc, _+_, _≤_, _<_};
+ghost use Prim.Native.Nat.{suc, _≤_, _<_};
 ghost use lib.ListN.{length, getD, set};
 ghost use Rattle.rules.specs.Constants.{deepest, mostStatements, mostRegisters, mostVariables};
 ghost use Rattle.rules.specs.Program as P;
@@ -36,9 +37,9 @@ ghost use Rattle.state.specs.Shape.{Sizes, threadOf, sizesOf, stateOf};
 ghost use Rattle.state.specs.Access.{threadAt};
 ghost use Rattle.state.specs.Cells.{decode};
 ghost use Rattle.search.specs.Plan.{programIn};
-ghost use Rattle.search.specs.Fetch.{namesOf, Fetches};
+ghost use Rattle.search.specs.Fetch.{namesOf, Fetches, OfProgram};
 ghost use Rattle.search.specs.Push.{Pushed};
-ghost use Rattle.search.specs.Act.{Asks, OfProgram, Acts, movedBy};
+ghost use Rattle.search.specs.Act.{Asks, Acts, movedBy};
 
 // An event of thread t, which has n registers, between two ticks.
 pub(crate) struct Event {
@@ -51,14 +52,6 @@ pub(crate) struct Event {
 pub(crate) enum Acted {
     Fault(Refusal),
     Height(usize),
-}
-
-// The number of the next statement.
-pub(crate) fn next(at: u8) -> u8
-    requires { ⌜ at < mostStatements ⌝ }
-    ensures { λ r. ⌜ r ≡ suc at ⌝ }
-{
-    at + 1
 }
 
 fn skip(
@@ -227,7 +220,7 @@ pub(crate) fn act(
     height: usize,
     slots: usize,
 ) -> Acted
-    requires { ⌜ Asks v (now work) height slots × (OfProgram (programIn (now sheet)) v
+    requires { ⌜ Asks v (now work) height slots × (OfProgram (programIn (now sheet)) (v .thread) (v .registers)
         × ((x : Statement) × Fetches (now sheet) (namesOf (programIn (now sheet)) (v .thread)) (threadAt (decode (now cells)) (v .thread) .at) x f)) ⌝ }
     ensures { λ k. ⌜ ((x : Statement) → Fetches (now (sheet .entry)) (namesOf (programIn (now (sheet .entry))) (v .thread)) (threadAt (decode (now (cells .entry))) (v .thread) .at) x f
         → Acts (sizesOf (programIn (now (sheet .entry)))) slots (now (work .entry)) (now (work .exit)) height k

@@ -6,7 +6,7 @@ use reader::Time;
 use reader::decoding::Action;
 use reader::decoding::statement_at;
 ghost use mathlib.Core.Path.{_≡_};
-ghost use Prim.Native.Nat.{ℕ, _+_, _≤_, _<_};
+ghost use Prim.Native.Nat.{ℕ, suc, _+_, _≤_, _<_};
 ghost use lib.ListN.{length};
 ghost use Rattle.rules.specs.Constants.{mostStatements};
 ghost use Rattle.rules.specs.Program.{Statement, noStatement};
@@ -15,7 +15,7 @@ ghost use Rattle.reader.specs.Facts.{statementIn, StatementFacts, Targets};
 ghost use Rattle.search.specs.Plan.{programIn, Ready};
 ghost use Rattle.search.specs.Fetch.{halts, namesOf, Fetches};
 
-pub(crate) struct Fetched {
+pub struct Fetched {
     pub place: usize,
     pub least: Time,
     pub greatest: Time,
@@ -53,13 +53,7 @@ fn fetch_at(sheet: &[u8], place: usize) -> Fetched
 }
 
 // Statement `at` of thread t.
-pub(crate) fn fetch(
-    sheet: &[u8],
-    places: &[u16; MOST_PLACES],
-    plan: Plan,
-    t: usize,
-    at: u8,
-) -> Fetched
+pub fn fetch(sheet: &[u8], places: &[u16; MOST_PLACES], plan: Plan, t: usize, at: u8) -> Fetched
     requires { ⌜ Ready (now sheet) plan (now places) × (t < length (programIn (now sheet) .threads)) ⌝ }
     ensures { λ r. ⌜ Fetches (now (sheet .entry)) (namesOf (programIn (now (sheet .entry))) t) at (statementIn (programIn (now (sheet .entry))) t at) r ⌝ }
 {
@@ -74,11 +68,19 @@ pub(crate) fn fetch(
     fetch_at(sheet, place)
 }
 
-pub(crate) fn is_halt(action: Action) -> bool
+pub fn is_halt(action: Action) -> bool
     ensures { λ r. ⌜ r ≡ halts action ⌝ }
 {
     match action {
         Action::Halt => true,
         _ => false,
     }
+}
+
+// The number of the next statement.
+pub fn next(at: u8) -> u8
+    requires { ⌜ at < mostStatements ⌝ }
+    ensures { λ r. ⌜ r ≡ suc at ⌝ }
+{
+    at + 1
 }

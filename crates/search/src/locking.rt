@@ -1,6 +1,6 @@
 // The event of a thread at a lock or an unlock. A lock's cell is 0 for none, t + 1 for the thread t that owns it.
 use crate::act::Event;
-use crate::act::next;
+use crate::fetch::next;
 use crate::push::push_moved;
 use crate::push::push_owner;
 use state::NUMBERS_PER_STATE;
@@ -20,7 +20,7 @@ ghost use Rattle.state.specs.Cells.{decode};
 ghost use Rattle.search.specs.Act.{Asks, Acts};
 
 // How a lock's cell names thread t.
-fn owner(t: usize) -> u8
+pub fn owner(t: usize) -> u8
     requires { ⌜ t < mostThreads ⌝ }
     ensures { λ r. ⌜ r ≡ suc t ⌝ }
 {
@@ -28,7 +28,7 @@ fn owner(t: usize) -> u8
 }
 
 // A lock is free, or the thread owns it already.
-pub(crate) fn may_take(t: usize, o: u8) -> bool
+pub fn may_take(t: usize, o: u8) -> bool
     requires { ⌜ t < mostThreads ⌝ }
     ensures { λ r. ⌜ r ≡ mayTake t (ownerOf o) ⌝ }
 {
@@ -38,7 +38,7 @@ pub(crate) fn may_take(t: usize, o: u8) -> bool
     o == owner(t)
 }
 
-fn after_unlock(t: usize, o: u8) -> u8
+pub fn after_unlock(t: usize, o: u8) -> u8
     requires { ⌜ t < mostThreads ⌝ }
     ensures { λ r. ⌜ ownerOf r ≡ afterUnlock t (ownerOf o) ⌝ }
 {

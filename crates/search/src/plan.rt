@@ -3,7 +3,7 @@ use reader::MOST_THREADS;
 use reader::Time;
 use reader::threads::ThreadEntry;
 
-pub(crate) struct Plan {
+pub struct Plan {
     pub threads: usize,
     pub limit: Time,
     pub entries: [ThreadEntry; MOST_THREADS],

@@ -4,10 +4,10 @@ use mathlib.Core.Bool.{Bool, true, false, _||_}
 use Prim.Native.Nat.{ℕ, _+_}
 use native.Mathlib.Omega.{arith}
 use lib.Dec.{T, leb, eqb, leb→le}
-use Rattle.rules.specs.Base.{if_then_else_}
-use Rattle.rules.specs.Refusal.{Refusal, number, short, outOfTurn, badLength, noSuchName}
-use Rattle.rules.specs.Format.{Bytes, Got, bad, got, need, andThen, mapGot, due, sized, hasHead, hasBody, byte, num16}
+use Rattle.rules.specs.Refusal.{Refusal, number, short, badLength, noSuchName}
+use Rattle.rules.specs.Format.{Bytes, Got, bad, got, need, sized, hasBody, num16}
 use Rattle.rules.proofs.Refusal.{positive}
+use Rattle.rules.proofs.Numbers.{Refuses, need-refuses, then-refuses, map-refuses, due-refuses}
 use Rattle.shelf.specs.Pairs.{readName, passSheet, Pair, readPair, Look, hit, miss, stop, lookIn}
 use Rattle.shelf.specs.Lookup.{customers, ours, Answer, found, refused, lookOn, lookup}
 use Rattle.shelf.specs.Claims.{Without, Ends, in-customers, customers-stops, in-ours, ours-stops, neither, IsFirst, LookupClaims}
@@ -18,39 +18,22 @@ use Rattle.shelf.proofs.Worked.{rows-hold}
 
 -- ---- a pair is refused with 1, 2 or 3
 
-abbrev Few : {A : Type 0} → Got A → Type 0
-Few (bad r p) = T (leb (number r) 3)
-Few (got a q) = Unit {0}
+abbrev OfField : Refusal → Type 0
+OfField r = T (leb (number r) 3)
 
-few-need : {A : Type 0} (b : Bool) (r : Refusal) (at : ℕ) (g : Got A) → T (leb (number r) 3) → Few g → Few (need b r at g)
-unfolding need
-few-need true r at g t h = h
-few-need false r at g t h = t
-
-few-then : {A B : Type 0} (g : Got A) (k : A → ℕ → Got B) → Few g → ((a : A) (q : ℕ) → Few (k a q)) → Few (andThen g k)
-unfolding andThen
-few-then (bad r p) k h l = h
-few-then (got a q) k h l = l a q
-
-few-map : {A B : Type 0} (k : A → B) (g : Got A) → Few g → Few (mapGot k g)
-unfolding mapGot
-few-map k (bad r p) h = h
-few-map k (got a q) h = tt
-
-few-pair : (f : Bytes) (at : ℕ) → Few (readPair f at)
-unfolding readPair readName passSheet due sized need
+few-pair : (f : Bytes) (at : ℕ) → Refuses OfField (readPair f at)
+unfolding readPair readName passSheet sized need
 few-pair f at =
-    few-then _ _
-    (few-need (hasHead f at) short at _ tt (few-need (eqb (byte f at) 48) outOfTurn at _ tt
-    (few-need (hasBody f at) short at _ tt (few-need (eqb (num16 f (at + 1)) 1) badLength at _ tt tt))))
-    (λ name p. few-map _ _ (few-need (hasHead f p) short p _ tt (few-need (eqb (byte f p) 49) outOfTurn p _ tt (few-need (hasBody f p) short p _ tt tt))))
+    then-refuses OfField _ _
+    (due-refuses OfField 48 f at _ tt tt (need-refuses OfField (hasBody f at) short at _ tt (need-refuses OfField (eqb (num16 f (at + 1)) 1) badLength at _ tt tt)))
+    (λ name p. map-refuses OfField _ _ (due-refuses OfField 49 f p _ tt tt (need-refuses OfField (hasBody f p) short p _ tt tt)))
 
 abbrev FewIn : Look → Type 0
 FewIn (hit p n) = Unit {0}
 FewIn miss = Unit {0}
-FewIn (stop r p) = T (leb (number r) 3)
+FewIn (stop r p) = OfField r
 
-few-of-pair : (g : Got Pair) → Few g → OfPair FewIn g
+few-of-pair : (g : Got Pair) → Refuses OfField g → OfPair FewIn g
 few-of-pair (bad r p) h = h
 few-of-pair (got x q) h = tt
 

@@ -7,10 +7,11 @@ use native.Mathlib.Omega.{arith}
 use lib.Dec.{leb, eqb, leb→le, nleb→lt, eqb→eq}
 use lib.ListN.{length}
 use Rattle.rules.specs.Base.{if_then_else_}
-use Rattle.rules.specs.Refusal.{short, outOfTurn, badLength, offRange}
-use Rattle.rules.specs.Format.{Bytes, Got, bad, got, byte, num16, hasHead, hasBody, due, sized}
+use Rattle.rules.specs.Refusal.{short, outOfTurn}
+use Rattle.rules.specs.Format.{Bytes, Got, bad, got, byte, num16, hasHead, hasBody, due}
 use Rattle.rules.proofs.Base.{if-ind}
 use Rattle.reader.proofs.IfAt.{IfAt, need-at, then-at, map-at, weaker-at}
+use Rattle.reader.proofs.FieldAt.{field-at}
 use Rattle.shelf.specs.Pairs.{readName, passSheet, Pair, readPair, Look, hit, miss, stop, onPair, lookPairs, lookIn}
 
 -- ---- a pair
@@ -30,14 +31,10 @@ module _ (f : Bytes) (at : ℕ) where
     pub fits : at + 3 + n ≤ length f
 
   pub name-says : IfAt NameSays (readName f at)
-  unfolding readName due sized hasBody
+  unfolding readName
   name-says =
-      need-at NameSays (hasHead f at) short at _ (λ _. need-at NameSays (eqb (byte f at) 48) outOfTurn at _ (λ t.
-      need-at NameSays (leb (at + 3 + num16 f (at + 1)) (length f)) short at _ (λ l. need-at NameSays (eqb (num16 f (at + 1)) 1) badLength at _ (λ n.
-      need-at NameSays true offRange at _ (λ _.
-      let one = eqb→eq (num16 f (at + 1)) 1 n in
-      let body = leb→le (at + 3 + num16 f (at + 1)) (length f) l in
-      record { tag = eqb→eq (byte f at) 48 t; one = one; is = refl; ends = omega arith; fits = omega arith })))))
+      field-at NameSays 48 1 f at true (byte f (at + 3)) (λ h _.
+      let l = h .fits in record { tag = h .tag-is; one = h .size-is; is = refl; ends = omega arith; fits = omega arith })
 
   pub sheet-says : IfAt SheetSays (passSheet f at)
   unfolding passSheet due hasBody

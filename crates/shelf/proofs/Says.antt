@@ -8,10 +8,10 @@ use lib.ListN.{length, take, drop, length-append, drop-of-length-le}
 use lib.Seq.{drop-cons}
 use Rattle.rules.specs.Base.{nil}
 use Rattle.rules.specs.Refusal.{Refusal}
-use Rattle.rules.specs.Format.{Bytes, Got, bad, got, byte}
+use Rattle.rules.specs.Format.{Bytes, AreBytes, Got, bad, got, byte}
 use Rattle.rules.proofs.Base.{if-ind, each-snoc}
 use Rattle.shelf.specs.Pairs.{pair, Pair, readPair, Look, hit, miss, stop, onPair, lookPairs, lookIn}
-use Rattle.shelf.specs.Claims.{Entry, pairs, Lack, Without, First, Stops, AreBytes}
+use Rattle.shelf.specs.Claims.{Entry, pairs, Lack, Without, First, Stops}
 use Rattle.shelf.proofs.Look.{PairSays, pair-says}
 use Rattle.shelf.proofs.Written.{pair-length, sheet-length, read-written}
 use Rattle.reader.proofs.IfAt.{when-got}

@@ -1,33 +1,26 @@
 -- A file's bytes and its pairs: what is written reads as it was written, and what reads was so written.
 use mathlib.Core.Path.{_≡_, refl, sym, ap, _∙_}
-use mathlib.Core.Bool.{Bool, true}
+use mathlib.Core.Bool.{true}
 use mathlib.Core.List.{_∷_, _++_}
 use Prim.Native.Nat.{ℕ, suc, _+_, _/_, _%_, _≤_, _<_}
 use native.Mathlib.Omega.{arith}
 use lib.ListN.{length, take, drop, length-append, length-drop, take-append-drop}
-use lib.Seq.{drop-cons, drop-drop, length-take-le, getD-append-add}
+use lib.Seq.{drop-drop, length-take-le, getD-append-add}
 use borrow.Author.Tests.{eq-eqb, le-leb}
-use Rattle.rules.specs.Refusal.{Refusal}
-use Rattle.rules.specs.Format.{Bytes, Got, got, andThen, need, mapGot, byte, num16, hasHead, hasBody, due, sized}
+use Rattle.rules.specs.Format.{Bytes, AreBytes, Got, got, andThen, mapGot, byte, num16, hasHead, hasBody, due}
 use Rattle.rules.proofs.Base.{each-at}
+use Rattle.reader.proofs.FieldAt.{passed, field-reads, one-at}
 use Rattle.shelf.specs.Pairs.{pair, readName, passSheet, Pair, readPair}
-use Rattle.shelf.specs.Claims.{AreBytes}
 use Rattle.shelf.proofs.Look.{NameSays, SheetSays, PairSays}
 
 -- ---- what says so is read
 
-passed : {A : Type 0} (b : Bool) (r : Refusal) (at : ℕ) (g : Got A) → b ≡ true → need b r at g ≡ g
-unfolding need
-passed b r at g e = ap (λ (z : Bool). need z r at g) e
-
 module _ (f : Bytes) (at : ℕ) where
   name-reads : (n q : ℕ) → NameSays f at n q → readName f at ≡ got n q
-  unfolding readName due sized hasHead hasBody
+  unfolding readName
   name-reads n q h =
-      let l = h .fits in let o = h .one in let d = h .ends in let e : at + 3 + 1 ≡ q = omega arith in
-      passed _ _ at _ (le-leb (at + 3) (length f) (omega arith)) ∙ passed _ _ at _ (eq-eqb (byte f at) 48 (h .tag))
-      ∙ passed _ _ at _ (le-leb (at + 3 + num16 f (at + 1)) (length f) (omega arith)) ∙ passed _ _ at _ (eq-eqb (num16 f (at + 1)) 1 o)
-      ∙ passed true _ at _ refl ∙ (λ i. got (sym (h .is) i) (e i))
+      let l = h .fits in let d = h .ends in let e : at + 3 + 1 ≡ q = omega arith in
+      field-reads 48 1 f at true (byte f (at + 3)) (record { tag-is = h .tag; size-is = h .one; fits = omega arith }) refl ∙ (λ i. got (sym (h .is) i) (e i))
 
   sheet-reads : (n q : ℕ) → SheetSays f at n q → passSheet f at ≡ got n q
   unfolding passSheet due hasHead hasBody
@@ -81,25 +74,21 @@ module _ (front : Bytes) (n : ℕ) (sheet rest : Bytes) where
 -- ---- a pair that reads was so written
 
 module _ (f : Bytes) (at : ℕ) where
-  -- the bytes from a place on, by the first of them
-  next-byte : (p q : ℕ) → q ≡ p + 1 → p < length f → drop p f ≡ byte f p ∷ drop q f
-  next-byte p q e h = let s : suc p ≡ q = omega arith in drop-cons f p 0 h ∙ ap (λ (k : ℕ). byte f p ∷ drop k f) s
-
   seven : at + 7 ≤ length f → drop at f ≡ byte f at ∷ byte f (at + 1) ∷ byte f (at + 2) ∷ byte f (at + 3) ∷ byte f (at + 4) ∷ byte f (at + 5) ∷ byte f (at + 6) ∷ drop (at + 7) f
   seven h =
-      next-byte at (at + 1) refl (omega arith)
+      one-at f at (at + 1) refl (omega arith)
       ∙ ap (λ (r : Bytes). byte f at ∷ r)
-      (next-byte (at + 1) (at + 2) (omega arith) (omega arith)
+      (one-at f (at + 1) (at + 2) (omega arith) (omega arith)
       ∙ ap (λ (r : Bytes). byte f (at + 1) ∷ r)
-      (next-byte (at + 2) (at + 3) (omega arith) (omega arith)
+      (one-at f (at + 2) (at + 3) (omega arith) (omega arith)
       ∙ ap (λ (r : Bytes). byte f (at + 2) ∷ r)
-      (next-byte (at + 3) (at + 4) (omega arith) (omega arith)
+      (one-at f (at + 3) (at + 4) (omega arith) (omega arith)
       ∙ ap (λ (r : Bytes). byte f (at + 3) ∷ r)
-      (next-byte (at + 4) (at + 5) (omega arith) (omega arith)
+      (one-at f (at + 4) (at + 5) (omega arith) (omega arith)
       ∙ ap (λ (r : Bytes). byte f (at + 4) ∷ r)
-      (next-byte (at + 5) (at + 6) (omega arith) (omega arith)
+      (one-at f (at + 5) (at + 6) (omega arith) (omega arith)
       ∙ ap (λ (r : Bytes). byte f (at + 5) ∷ r)
-      (next-byte (at + 6) (at + 7) (omega arith) (omega arith)))))))
+      (one-at f (at + 6) (at + 7) (omega arith) (omega arith)))))))
 
   module _ (x : Pair) (q : ℕ) (bytes : AreBytes f) (says : PairSays f at x q) where
     abbrev sheet : Bytes

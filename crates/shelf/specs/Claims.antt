@@ -3,12 +3,12 @@
 use mathlib.Core.Path.{_≡_}
 use mathlib.Core.Bool.{_||_}
 use mathlib.Core.List.{List, [], _∷_, _++_}
-use Prim.Native.Nat.{ℕ, _+_, _<_}
+use Prim.Native.Nat.{ℕ, _+_}
 use lib.Dec.{T, leb, eqb}
 use lib.ListN.{length}
 use Rattle.rules.specs.Base.{Each}
 use Rattle.rules.specs.Refusal.{Refusal, number, noSuchName}
-use Rattle.rules.specs.Format.{Bytes, bad}
+use Rattle.rules.specs.Format.{Bytes, AreBytes, bad}
 use Rattle.shelf.specs.Pairs.{pair, readPair}
 use Rattle.shelf.specs.Lookup.{customers, ours, fileOf, bytesOf, Answer, found, refused, lookup}
 use Rattle.shelf.specs.Worked.{RowsHold}
@@ -58,9 +58,6 @@ pub data Ends (name : ℕ) (customer house : Bytes) : Answer → Type 0 where
   in-ours : Without name customer → (p : ℕ) (sheet : Bytes) → First name house p sheet → Ends name customer house (found ours p (length sheet))
   ours-stops : Without name customer → (r : Refusal) (p : ℕ) → Stops name house r p → Ends name customer house (refused ours r p)
   neither : Without name customer → Without name house → Ends name customer house (refused ours noSuchName 0)
-
-abbrev pub AreBytes : Bytes → Type 0
-AreBytes f = Each (λ b. b < 256) f
 
 -- ---- the claims, of every name and all files of bytes
 

@@ -1,6 +1,8 @@
 // Looks for a sheet by its name: NAME HIS OURS, a number from 0 to 255 and two files. The sheet's bytes go to standard output. Where
 // the lookup is refused, nothing goes there, and the line `number file place` (file 0 the customer's, 1 ours) goes to standard error.
 // What goes to both, of the bytes that were read, is proved to be what the rule gives.
+use files::opened;
+use files::reads_on;
 use libc::STDERR_FILENO;
 use libc::STDOUT_FILENO;
 use shelf::lookup;
@@ -103,21 +105,6 @@ fn put_answer<'a>(name: u8, customer: &'a [u8], house: &'a [u8]) {
 
 // ---- the files
 
-// The file that an argument names, opened; below 0, and the reason on standard error, if it cannot be.
-fn opened(i: usize) -> i32 {
-    let mut path = io::buffer();
-    let n = os::arg(i, &mut path);
-    if os::errno() != 0 {
-        os::fail(b"a path");
-        return -1;
-    }
-    let fd = os::open_read(&path[..n]);
-    if fd < 0 {
-        os::fail(&path[..n]);
-    }
-    fd
-}
-
 // Reads a file as far as there is room, and gives how many bytes it read.
 fn read_file(fd: i32, file: &mut [u8; MOST_BYTES]) -> usize
     ensures { λ r. ⌜ (length (now (file .exit)) ≡ longestFile + 1) × (r ≤ longestFile + 1) ⌝ }
@@ -135,12 +122,7 @@ fn is_whole(fd: i32, n: usize, called: &[u8]) -> bool {
         );
         return false;
     }
-    let mut more = [0u8; 1];
-    if libc::read(fd, &mut more) < 0 {
-        os::fail(called);
-        return false;
-    }
-    true
+    reads_on(fd, called)
 }
 
 fn look(name: u8, one: i32, two: i32) {

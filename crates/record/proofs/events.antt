@@ -1,0 +1,2 @@
+-- What the proofs of several functions of `events`, and of those above it, cite.
+pub mod Laws

@@ -1,0 +1,3 @@
+-- What the proofs of several functions of `whole` cite.
+pub mod Laws
+pub mod Start

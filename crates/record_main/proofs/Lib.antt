@@ -1,0 +1,2 @@
+-- Laws of what the program prints.
+pub mod Laws

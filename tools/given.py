@@ -1,0 +1,54 @@
+"""The files that a person names: their bytes and, where a sheet is given as text, the sheet that it tells."""
+
+import sheet as notation
+from programs import CannotRun, reason
+
+# A file longer than this is not read to its end. A sheet has at most 16,384 bytes, and its text a tenth of this.
+# The program that looks for a name reads no longer file either.
+MOST_READ = 1_000_000
+
+FORMS = {"--text", "--bytes"}
+
+
+def read(name):
+    """The bytes of a file, or of standard input."""
+    try:
+        with open(0 if name == "-" else name, "rb", closefd=name != "-") as file:
+            return file.read(MOST_READ + 1)
+    except OSError as error:
+        raise CannotRun(f"{name}: {reason(error)}") from None
+
+
+def whole(name, given, kind):
+    """The bytes of a file, if they were read to their end."""
+    if len(given) > MOST_READ:
+        raise CannotRun(f"{name}: a {kind} of more than {MOST_READ:,} bytes is not read")
+    return given
+
+
+def one_form(options):
+    if FORMS <= options:
+        raise CannotRun("a file is either text or bytes: --text and --bytes do not go together")
+
+
+class Given:
+    """A sheet that was given: its bytes and, if it came as text, the lines and where the fields stand in them."""
+
+    def __init__(self, name, given, options):
+        self.name, self.sheet, self.text, self.places = name, given, [], []
+        self.forced = bool(options & FORMS)
+        if "--text" in options or (not self.forced and notation.is_text(given)):
+            self.assemble(whole(name, given, "text"))
+
+    def assemble(self, given):
+        self.text = notation.lines_of(given)
+        try:
+            self.sheet, self.places = notation.assemble_with_lines(self.text)
+        except notation.SheetError as error:
+            raise CannotRun(f"{self.name}: {str(error)[:200]}") from None
+
+    def hint(self, answer):
+        """A line of advice, where a text may have been taken for bytes."""
+        if answer.refusal in (1, 2) and answer.place == 0 and self.sheet and not self.forced:
+            return ["  (it was taken as bytes, since it holds control characters; --text takes it as text)"]
+        return []
