@@ -7,6 +7,8 @@
 //! in it. No run finishes: the record ends it.
 
 #[allow(dead_code)]
+mod field;
+#[allow(dead_code)]
 mod generator;
 #[allow(dead_code)]
 mod oracle;
@@ -17,14 +19,15 @@ mod record_rule;
 mod record_runs;
 mod record_sheet;
 #[allow(dead_code)]
-mod record_sheets;
+mod sheet_parts;
+mod sheet_reads;
 mod timing;
 #[allow(dead_code)]
 mod zumbeiry_follow;
 
 use generator::Random;
 use record_runs::random_run;
-use record_sheets::*;
+use sheet_parts::*;
 use std::hint::black_box;
 use std::time::Duration;
 use timing::timed;

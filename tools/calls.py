@@ -21,13 +21,13 @@ def expect(what, holds, seen=""):
 
 
 class Call:
-    """One call of the command, with what it wrote and how it ended. Root is where the command stands; the environment may
-    have other values (PATH=..)."""
+    """One call of the command, with what it wrote and how it ended. Root is where the command stands; before is called in its
+    process before it starts; the environment may have other values (PATH=..)."""
 
-    def __init__(self, *arguments, given=b"", root=ROOT, folder=ROOT, **environment):
+    def __init__(self, *arguments, given=b"", root=ROOT, folder=ROOT, before=None, **environment):
         command = [sys.executable, os.path.join(root, "zumbeiry"), *arguments]
         environment = {**os.environ, **environment}
-        ended = subprocess.run(command, input=given, cwd=folder, env=environment, capture_output=True)
+        ended = subprocess.run(command, input=given, cwd=folder, env=environment, preexec_fn=before, capture_output=True)
         self.what = " ".join(arguments)
         self.status, self.bytes, self.err = ended.returncode, ended.stdout, ended.stderr.decode()
         self.out = self.bytes.decode(errors="backslashreplace")
@@ -83,8 +83,9 @@ def copied(folder):
     for made in (("crates", "label", "src"), ("target", "bin"), ("tools",)):
         os.makedirs(os.path.join(copy, *made))
     shutil.copy(os.path.join(ROOT, "zumbeiry"), copy)
-    for name in ("sheet.py", "words.py", "fields.py", "given.py", "lookup.py", "follower.py", "programs.py"):
-        shutil.copy(os.path.join(ROOT, "tools", name), os.path.join(copy, "tools"))
-    in_folder(copy, "crates.txt", b"label:\nlabel_main: label io # a comment\nshelf_main: io\nrecord_main: io\n")
+    for name in ("sheet", "words", "fields", "given", "lookup", "follower", "preview", "programs", "usages"):
+        shutil.copy(os.path.join(ROOT, "tools", f"{name}.py"), os.path.join(copy, "tools"))
+    crates = "label:\nlabel_main: label io # a comment\nshelf_main: io\nrecord_main: io\npreview_main: io\n"
+    in_folder(copy, "crates.txt", crates.encode())
     in_folder(copy, os.path.join("crates", "label", "src", "lib.rt"), b"")
     return copy

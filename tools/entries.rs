@@ -1,27 +1,28 @@
-//! What the corpora of lookups and of records have in common: entries of two files each, with the
-//! numbers that are due for them. lookup_corpus.rs and record_corpus.rs say what stands in an
-//! entry's front. Numbers have the high byte first:
+//! What the corpora of lookups, of records and of new times have in common: entries of two files each,
+//! with the numbers that are due for them. lookup_corpus.rs, record_corpus.rs and retime_corpus.rs say
+//! what stands in an entry's front. Numbers have the high byte first:
 //!
 //!     entries                       4 bytes
 //!     then for each entry
-//!       front                       20 bytes; from byte 1 on the lengths of both files, 4 bytes each
+//!       front                       from byte 1 on the lengths of both files, 4 bytes each
 //!       the first file's bytes, then the second's
 
-use std::collections::BTreeMap;
+use std::collections::{BTreeMap, BTreeSet};
 use std::ops::Range;
 use std::panic::{self, RefUnwindSafe};
 
-const FRONT: usize = 20;
 /// What is planted in an entry with a wrong number; 0 in an entry that nothing is planted in.
 pub const WRONG: u8 = 1;
 
 /// The entry of one of the corpora.
 pub trait Entry: RefUnwindSafe + Sized {
-    /// Where in the front its numbers stand, and what is planted.
+    /// The front's length, and where in it the numbers stand, and what is planted.
+    const FRONT: usize;
     const NUMBERS: Range<usize>;
     const PLANTED: usize;
-    /// What else is planted in copies of entries that are not refused, their numbers being right.
-    const OTHERS: &'static [u8];
+    /// What else is planted in copies of entries that are not refused, and of refused ones, their
+    /// numbers being right.
+    const OTHERS: [&'static [u8]; 2];
 
     fn new(front: &[u8], files: [&[u8]; 2]) -> Self;
 
@@ -35,6 +36,39 @@ pub trait Entry: RefUnwindSafe + Sized {
     fn may_have_copy(&self) -> bool;
 
     fn is_answered(&self) -> bool;
+
+    /// A copy with one of the others planted, as it stands in the corpus; `_nth` is its place among them.
+    fn with_other(&self, planted: u8, _nth: usize) -> Vec<u8> {
+        let mut copy = self.bytes();
+        copy[Self::PLANTED] = planted;
+        copy
+    }
+
+    /// Whether something that it states is wrong.
+    fn is_wrong(&self) -> bool {
+        self.planted() == WRONG
+    }
+}
+
+/// Cases, none of them twice.
+pub struct Cases<C> {
+    pub all: Vec<C>,
+    seen: BTreeSet<C>,
+}
+
+impl<C: Clone + Ord> Cases<C> {
+    pub fn new() -> Cases<C> {
+        Cases { all: Vec::new(), seen: BTreeSet::new() }
+    }
+
+    /// Adds a case that is not yet there.
+    pub fn put(&mut self, case: C) -> bool {
+        let new = self.seen.insert(case.clone());
+        if new {
+            self.all.push(case);
+        }
+        new
+    }
 }
 
 pub fn number(bytes: &[u8]) -> usize {
@@ -51,10 +85,10 @@ pub fn read<E: Entry>(bytes: &[u8]) -> Option<Vec<E>> {
     let mut rest = &bytes[4..];
     let mut entries = Vec::new();
     for _ in 0..count {
-        let front = rest.get(..FRONT)?;
-        let second = FRONT + number(&front[1..5]);
+        let front = rest.get(..E::FRONT)?;
+        let second = E::FRONT + number(&front[1..5]);
         let end = second + number(&front[5..9]);
-        entries.push(E::new(front, [rest.get(FRONT..second)?, rest.get(second..end)?]));
+        entries.push(E::new(front, [rest.get(E::FRONT..second)?, rest.get(second..end)?]));
         rest = &rest[end..];
     }
     rest.is_empty().then_some(entries)
@@ -70,18 +104,16 @@ pub fn corpus(entries: Vec<Vec<u8>>) -> Vec<u8> {
 /// entry, in its highest. The copies are spread evenly. None if there are too few entries.
 pub fn planted<E: Entry>(entries: &[E]) -> Option<Vec<u8>> {
     let mut copies = BTreeMap::new();
-    for (accepted, bit) in [(true, 0x01), (false, 0x80)] {
-        let mut changes: Vec<(usize, u8, u8)> = E::NUMBERS.map(|byte| (byte, bit, WRONG)).collect();
-        if accepted {
-            changes.extend(E::OTHERS.iter().map(|&other| (E::PLANTED, 0, other)));
-        }
+    for ((accepted, bit), others) in [(true, 0x01), (false, 0x80)].into_iter().zip(E::OTHERS) {
         let fits = |entry: &E| entry.planted() == 0 && entry.may_have_copy() && (entry.refusal() == 0) == accepted;
         let fitting: Vec<usize> = (0..entries.len()).filter(|&at| fits(&entries[at])).collect();
-        for (index, &(byte, bit, planted)) in changes.iter().enumerate() {
-            let at = *fitting.get((2 * index + 1) * fitting.len() / (2 * changes.len()))?;
-            let mut copy = entries[at].bytes();
-            copy[byte] ^= bit;
-            copy[E::PLANTED] = planted;
+        let count = E::NUMBERS.len() + others.len();
+        for index in 0..count {
+            let at = *fitting.get((2 * index + 1) * fitting.len() / (2 * count))?;
+            let copy = match index.checked_sub(E::NUMBERS.len()) {
+                Some(nth) => entries[at].with_other(others[nth], nth),
+                None => with_wrong(&entries[at], E::NUMBERS.start + index, bit),
+            };
             if copies.insert(at, copy).is_some() {
                 return None;
             }
@@ -89,6 +121,14 @@ pub fn planted<E: Entry>(entries: &[E]) -> Option<Vec<u8>> {
     }
     let with_copy = |(at, entry): (usize, &E)| [Some(entry.bytes()), copies.remove(&at)];
     Some(corpus(entries.iter().enumerate().flat_map(with_copy).flatten().collect()))
+}
+
+/// A copy with this bit of this byte changed.
+fn with_wrong<E: Entry>(entry: &E, byte: usize, bit: u8) -> Vec<u8> {
+    let mut copy = entry.bytes();
+    copy[byte] ^= bit;
+    copy[E::PLANTED] = WRONG;
+    copy
 }
 
 /// No bytes are shown as a dash.
@@ -112,11 +152,11 @@ fn changed<E: Entry>(entries: &[&E]) -> (usize, usize) {
 }
 
 pub fn compare<E: Entry>(entries: &[E]) {
-    let (wrong, right): (Vec<&E>, Vec<&E>) = entries.iter().partition(|entry| entry.planted() == WRONG);
+    let (wrong, right): (Vec<&E>, Vec<&E>) = entries.iter().partition(|entry| entry.is_wrong());
     panic::set_hook(Box::new(|_| {}));
     let (otherwise, panics) = changed(&right);
     println!("{otherwise} of {} entries are answered otherwise, {panics} end in a panic", right.len());
     if !wrong.is_empty() {
-        println!("{} of {} with a wrong number are answered otherwise", changed(&wrong).0, wrong.len());
+        println!("{} of {} that state something wrong are answered otherwise", changed(&wrong).0, wrong.len());
     }
 }

@@ -113,7 +113,7 @@ class Walk:
 
 def call(path, sheet, recorded):
     """The five numbers that the program at the path gives."""
-    out, err = run_on(path, files=(sheet, recorded))
+    out, err = run_on(path, sheet, recorded)
     if ANSWER.fullmatch(out) and not err:
         return Followed(*map(int, out.split()))
     told = err.decode(errors="replace").partition("\n")[0][:200]

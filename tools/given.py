@@ -1,4 +1,9 @@
-"""The files that a person names: their bytes and, where a sheet is given as text, the sheet that it tells."""
+"""The files that a person names: their bytes, the sheet that a text tells, and other bytes for a file."""
+
+import contextlib
+import os
+import stat
+import tempfile
 
 import sheet as notation
 from programs import CannotRun, reason
@@ -52,3 +57,38 @@ class Given:
         if answer.refusal in (1, 2) and answer.place == 0 and self.sheet and not self.forced:
             return ["  (it was taken as bytes, since it holds control characters; --text takes it as text)"]
         return []
+
+
+def writable(given):
+    """Tells it if the sheet that was given cannot get other bytes."""
+    if given.name == "-":
+        raise CannotRun("--write is for a file: standard input, -, cannot be written")
+    if given.text:
+        raise CannotRun(f"{given.name}: a sheet that is text is not written; change its lines")
+    if not os.path.isfile(given.name):
+        raise CannotRun(f"{given.name}: not a file that can be written")
+    try:
+        with open(given.name, "r+b"):
+            pass
+    except OSError as error:
+        raise CannotRun(f"{given.name}: {reason(error)}") from None
+
+
+def put(name, new):
+    """Other bytes for a file. They go to a file beside it that then takes its name, so that a failure leaves it as it was. A
+    link stays one; mode and owner are kept, the owner as far as the system allows."""
+    path = os.path.realpath(name)
+    handle, beside = tempfile.mkstemp(dir=os.path.dirname(path))
+    try:
+        with os.fdopen(handle, "wb") as file:
+            file.write(new)
+            file.flush()
+            os.fsync(handle)
+        before = os.stat(path)
+        with contextlib.suppress(PermissionError):
+            os.chown(beside, before.st_uid, before.st_gid)
+        os.chmod(beside, stat.S_IMODE(before.st_mode))
+        os.replace(beside, path)
+    except BaseException:
+        os.unlink(beside)
+        raise

@@ -66,7 +66,7 @@ def name_of(word):
 
 def look(path, name, files):
     """What the program at the path finds: the bytes of a sheet, or a refusal. Files are the bytes of the two."""
-    out, err = run_on(path, str(name), files=files)
+    out, err = run_on(path, str(name), *files)
     if not out and REFUSED.fullmatch(err):
         return Refused(*map(int, err.split()))
     if not err and len(out) <= LONGEST and any(notation.field(SHEET, out) in given for given in files):

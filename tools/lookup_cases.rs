@@ -7,10 +7,11 @@ mod lookup_files;
 #[path = "lookup_random.rs"]
 mod lookup_random;
 
+use crate::entries::Cases;
+use crate::field::field;
 use crate::lookup;
-use lookup_files::{field, malformed, pair, pairs, sheet, well_formed, with_malformed, with_name_once};
+use lookup_files::{malformed, pair, pairs, sheet, well_formed, with_malformed, with_name_once};
 use lookup_random::Random;
-use std::collections::BTreeSet;
 
 /// A name to look up, and two files.
 #[derive(Clone, PartialEq, Eq, PartialOrd, Ord)]
@@ -28,20 +29,9 @@ const NAMES: [u8; 5] = [0, NAME, 48, 49, 255];
 /// How many random cases of a refusal, 0 to 5, are kept at most, per hundred asked for.
 const SHARES: [usize; 6] = [25, 20, 20, 20, 0, 15];
 
-struct Cases {
-    all: Vec<Case>,
-    seen: BTreeSet<Case>,
-}
-
-impl Cases {
-    /// Adds a case that is not yet there.
+impl Cases<Case> {
     fn add(&mut self, name: u8, customer: &[u8], house: &[u8]) -> bool {
-        let case = Case { name, customer: customer.to_vec(), house: house.to_vec() };
-        let new = self.seen.insert(case.clone());
-        if new {
-            self.all.push(case);
-        }
-        new
+        self.put(Case { name, customer: customer.to_vec(), house: house.to_vec() })
     }
 
     fn each_with_each(&mut self, name: u8, customers: &[Vec<u8>], houses: &[Vec<u8>]) {
@@ -217,7 +207,7 @@ impl Cases {
 
 /// The cases chosen by hand, then so many random ones.
 pub fn all(seed: u64, count: usize) -> Vec<Case> {
-    let mut cases = Cases { all: Vec::new(), seen: BTreeSet::new() };
+    let mut cases = Cases::new();
     cases.present();
     cases.repeated();
     cases.faults();

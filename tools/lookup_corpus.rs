@@ -18,8 +18,9 @@
 //! too short.
 
 use crate::entries::{corpus, four, hex, number, Entry, WRONG};
+use crate::field::{BAD_LENGTH, OUT_OF_TURN, SHORT};
 use crate::lookup_cases::Case;
-use crate::{lookup, BAD_LENGTH, CUSTOMER, HOUSE, NO_SUCH_NAME, OUT_OF_TURN, SHORT};
+use crate::{lookup, CUSTOMER, HOUSE, NO_SUCH_NAME};
 use std::ops::Range;
 use std::ptr;
 
@@ -34,10 +35,11 @@ pub struct Lookup {
 }
 
 impl Entry for Lookup {
+    const FRONT: usize = 20;
     const NUMBERS: Range<usize> = 9..19;
     const PLANTED: usize = 19;
     /// Each change of the part twice.
-    const OTHERS: &'static [u8] = &[2, 3, 4, 2, 3, 4];
+    const OTHERS: [&'static [u8]; 2] = [&[2, 3, 4, 2, 3, 4], &[]];
 
     fn new(front: &[u8], [customer, house]: [&[u8]; 2]) -> Lookup {
         let case = Case { name: front[0], customer: customer.to_vec(), house: house.to_vec() };

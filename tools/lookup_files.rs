@@ -1,15 +1,7 @@
 //! The files of the cases chosen by hand, and what they are made of.
 
 use super::{NAME, OTHER};
-
-fn header(tag: u8, length: usize) -> [u8; 3] {
-    let [high, low] = (length as u16).to_be_bytes();
-    [tag, high, low]
-}
-
-pub fn field(tag: u8, body: &[u8]) -> Vec<u8> {
-    [&header(tag, body.len()), body].concat()
-}
+use crate::field::field;
 
 pub fn pair(name: u8, sheet: &[u8]) -> Vec<u8> {
     [field(48, &[name]), field(49, sheet)].concat()

@@ -3,8 +3,8 @@
 #[path = "random.rs"]
 mod random;
 
-use super::lookup_files::field;
 use super::{NAME, OTHER};
+use crate::field::field;
 pub use random::Random;
 
 impl Random {

@@ -1,5 +1,6 @@
 """The proved programs: built when they are missing or older than what they are made of, and run."""
 
+import contextlib
 import os
 import subprocess
 import tempfile
@@ -112,16 +113,19 @@ def run(path, *arguments, given=b""):
     return ended.stdout, ended.stderr
 
 
-def run_on(path, *arguments, files):
-    """What the program writes that is called with two files behind the arguments. It is lent their bytes in temporary files
-    that have no name but this process's descriptors, so that none is left over, however this ends."""
+def lend(given, lent):
+    """The path of a temporary file with the bytes given, which has no name but this process's descriptor."""
+    file = lent.enter_context(tempfile.TemporaryFile())
+    file.write(given)
+    file.flush()
+    return f"/proc/{os.getpid()}/fd/{file.fileno()}"
+
+
+def run_on(path, *arguments):
+    """What the program writes that is called with these arguments. Those that are bytes are lent to it as files, of which none
+    is left over, however this ends."""
     try:
-        with tempfile.TemporaryFile() as one, tempfile.TemporaryFile() as two:
-            paths = []
-            for file, given in zip((one, two), files):
-                file.write(given)
-                file.flush()
-                paths.append(f"/proc/{os.getpid()}/fd/{file.fileno()}")
-            return run(path, *arguments, *paths)
+        with contextlib.ExitStack() as lent:
+            return run(path, *(lend(given, lent) if isinstance(given, bytes) else given for given in arguments))
     except OSError as error:
         raise CannotRun(f"a temporary file: {reason(error)}") from None

@@ -1,15 +1,16 @@
 //! The cases of a corpus of records: sheets and records chosen by hand, then random ones from a
 //! seed. The follower serves to choose random cases of each refusal.
 
+use crate::entries::Cases;
 use crate::generator::{Generator, Random};
 use crate::record_damage::{events_near, malformed, values_near};
-use crate::record_faults::{counted, unreadable, without_result};
+use crate::record_faults::{counted, without_result};
 use crate::record_follow::{follow, ranges, EVENT_TAG, LONGEST, START_TAG};
 use crate::record_rule::State;
 use crate::record_runs::{event, random_run, record, Run};
 use crate::record_sheet::{read, Sheet};
 use crate::record_sheets::*;
-use std::collections::BTreeSet;
+use crate::sheet_parts::*;
 
 #[derive(Clone, PartialEq, Eq, PartialOrd, Ord)]
 pub struct Case {
@@ -28,20 +29,9 @@ const SHARE_OF_SHEETS: usize = 8;
 /// A sheet of more bytes stands beside one record only.
 const LONG_SHEET: usize = 1000;
 
-struct Cases {
-    all: Vec<Case>,
-    seen: BTreeSet<Case>,
-}
-
-impl Cases {
-    /// Adds a case that is not yet there.
+impl Cases<Case> {
     fn add(&mut self, sheet: &[u8], record: &[u8]) -> bool {
-        let case = Case { sheet: sheet.to_vec(), record: record.to_vec() };
-        let new = self.seen.insert(case.clone());
-        if new {
-            self.all.push(case);
-        }
-        new
+        self.put(Case { sheet: sheet.to_vec(), record: record.to_vec() })
     }
 
     /// A run's record, and instead of each event and behind the last those near it.
@@ -212,7 +202,7 @@ fn tried(bytes: &[u8], sheet: &Sheet, random: &mut Random, most: usize) -> Run {
 
 /// The cases chosen by hand, then so many random ones.
 pub fn all(seed: u64, count: usize) -> Vec<Case> {
-    let mut cases = Cases { all: Vec::new(), seen: BTreeSet::new() };
+    let mut cases = Cases::new();
     cases.runs(&plain(), 2, 9);
     cases.runs(&locking(), 2, 11);
     cases.runs(&messages(), 3, 9);

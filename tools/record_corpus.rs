@@ -35,9 +35,10 @@ pub struct Record {
 }
 
 impl Entry for Record {
+    const FRONT: usize = 20;
     const NUMBERS: Range<usize> = 9..20;
     const PLANTED: usize = 0;
-    const OTHERS: &'static [u8] = &[];
+    const OTHERS: [&'static [u8]; 2] = [&[], &[]];
 
     fn new(front: &[u8], [sheet, record]: [&[u8]; 2]) -> Record {
         let case = Case { sheet: sheet.to_vec(), record: record.to_vec() };

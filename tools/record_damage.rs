@@ -1,10 +1,11 @@
 //! What is wrong with a record: malformed fields, events near those that a rule allows, and random
 //! damage.
 
+use crate::field::{field, HEADER};
 use crate::generator::Random;
-use crate::record_follow::{EVENT_LENGTH, EVENT_TAG, HEADER, START_LENGTH, START_TAG};
+use crate::record_follow::{EVENT_LENGTH, EVENT_TAG, START_LENGTH, START_TAG};
 use crate::record_rule::State;
-use crate::record_runs::{bound, event, field, latest, start};
+use crate::record_runs::{bound, event, latest, start};
 use crate::record_sheet::Sheet;
 use std::collections::BTreeSet;
 

@@ -1,7 +1,7 @@
-//! Sheets for a corpus of records: some whose arithmetic has no result, some that do not read, and the
-//! counted loops of the longest records.
+//! Sheets for a corpus of records: some whose arithmetic has no result, and the counted loops of the
+//! longest records.
 
-use crate::record_sheets::*;
+use crate::sheet_parts::*;
 
 /// The values are 0 or 1 and 46,341. A divisor that is 0, a result off the 32-bit values and both, in an
 /// assignment, on either side of a comparison, under not and on either side of an "and"; beside
@@ -25,19 +25,6 @@ pub fn without_result() -> Vec<Vec<u8>> {
     let other = thread(&[], &[skip((1, 3)), skip((1, 1))]);
     let beside = |statement| sheet(0, &[], &[thread(&[(0, 1), (46_341, 46_341)], &[statement]), other.clone()]);
     statements.into_iter().map(beside).collect()
-}
-
-/// Each of 1 to 9, made of this sheet (43 bytes) or of another; the last is too long.
-pub fn unreadable(good: &[u8]) -> Vec<Vec<u8>> {
-    let odd = |statement: Vec<u8>| sheet(1, &[(0, 0)], &[thread(&[(0, 0)], &[statement])]);
-    let many = sheet(0, &[(0, 0); 9], &[thread(&[], &[])]);
-    let mut sheets = vec![vec![], good[..42].to_vec(), good[..27].to_vec(), good[..35].to_vec(), many];
-    sheets.push([&good[..19], &[2, 0, 0], &good[22..]].concat());
-    sheets.push([&good[..25], &[0, 0], &good[26..]].concat());
-    sheets.extend([odd(skip((0, 3))), odd(skip((3, 2))), odd(store((1, 1), 1, 0)), odd(lock((1, 1), 1))]);
-    sheets.extend([odd(jump((1, 1), 2, &[32])), odd(jump((1, 1), 1, &[16])), odd(assign((1, 1), 0, &[99]))]);
-    sheets.push([sheet(0, &[], &[]), [0; 16_362].to_vec()].concat());
-    sheets
 }
 
 /// Skips, then so many turns of a loop of two statements.

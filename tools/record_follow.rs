@@ -1,12 +1,11 @@
 //! Follows a record of a job through a sheet (02, ticket 9). Written from the papers, it shares no
 //! code with the library it is compared with; sentences in quotation marks are those of the papers.
 
+use crate::field::{body, Fault, HEADER};
 use crate::record_rule::State;
-use crate::record_sheet::{read, signed, Fault, Range, Sheet};
+use crate::record_sheet::{read, signed, Sheet};
+use crate::sheet_parts::Range;
 
-pub const SHORT: u8 = 1;
-pub const OUT_OF_TURN: u8 = 2;
-pub const BAD_LENGTH: u8 = 3;
 pub const OFF_RANGE: u8 = 4;
 pub const NO_SUCH_NAME: u8 = 5;
 pub const TOO_LONG: u8 = 9;
@@ -17,8 +16,6 @@ pub const NOT_A_RUN: u8 = 21;
 pub const SHEET: u8 = 0;
 pub const RECORD: u8 = 1;
 
-/// "Fields are a one-byte tag, a two-byte length, then the body."
-pub const HEADER: usize = 3;
 /// "Starting values are tag 32, length 4, in sheet order."
 pub const START_TAG: u8 = 32;
 pub const START_LENGTH: usize = 4;
@@ -44,27 +41,6 @@ impl Followed {
     }
 }
 
-/// The body of the field at this place, where one of this tag and length is due. "within one:
-/// header short, tag, too many, body short, length, then contents"
-fn body(record: &[u8], place: usize, tag: u8, due: usize) -> Result<&[u8], Fault> {
-    let refuse = |refusal| Err(Fault { refusal, place });
-    let rest = &record[place..];
-    if rest.len() < HEADER {
-        return refuse(SHORT);
-    }
-    if rest[0] != tag {
-        return refuse(OUT_OF_TURN);
-    }
-    let length = usize::from(u16::from_be_bytes([rest[1], rest[2]]));
-    if rest.len() - HEADER < length {
-        return refuse(SHORT);
-    }
-    if length != due {
-        return refuse(BAD_LENGTH);
-    }
-    Ok(&rest[HEADER..HEADER + length])
-}
-
 /// "starting values of variables and of each thread's registers", "in sheet order"
 pub fn ranges(sheet: &Sheet) -> Vec<Range> {
     let registers = sheet.threads.iter().flat_map(|thread| &thread.registers);
@@ -76,7 +52,7 @@ fn starting(sheet: &Sheet, record: &[u8]) -> Result<(Vec<i32>, usize), Fault> {
     let mut values = Vec::new();
     let mut place = 0;
     for (low, high) in ranges(sheet) {
-        let value = signed(body(record, place, START_TAG, START_LENGTH)?);
+        let value = signed(&record[body(record, place, START_TAG, Some(START_LENGTH))?]);
         if value < low || high < value {
             return Err(Fault { refusal: OFF_RANGE, place });
         }
@@ -96,7 +72,7 @@ fn replay(sheet: &Sheet, record: &[u8]) -> Result<(bool, u64), Fault> {
     let mut tick = 0;
     while place < record.len() {
         let refuse = |refusal| Fault { refusal, place };
-        let body = body(record, place, EVENT_TAG, EVENT_LENGTH)?;
+        let body = &record[body(record, place, EVENT_TAG, Some(EVENT_LENGTH))?];
         let (thread, clock) = (usize::from(body[0]), u16::from_be_bytes([body[1], body[2]]));
         if thread >= sheet.threads.len() {
             return Err(refuse(NO_SUCH_NAME));

@@ -2,15 +2,12 @@
 //! are found here by their least and greatest, not by `may_end`, so that a random run also tries
 //! the follower.
 
+use crate::field::{field, HEADER};
 use crate::generator::Random;
-use crate::record_follow::{ranges, EVENT_LENGTH, EVENT_TAG, HEADER, START_LENGTH, START_TAG};
+use crate::record_follow::{ranges, EVENT_LENGTH, EVENT_TAG, START_LENGTH, START_TAG};
 use crate::record_rule::State;
 use crate::record_sheet::{signed, Sheet, LOCK};
-use crate::record_sheets::*;
-
-pub fn field(tag: u8, body: &[u8]) -> Vec<u8> {
-    [&[tag], &(body.len() as u16).to_be_bytes()[..], body].concat()
-}
+use crate::sheet_parts::*;
 
 pub fn start(value: i32) -> Vec<u8> {
     field(START_TAG, &value.to_be_bytes())

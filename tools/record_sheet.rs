@@ -2,18 +2,10 @@
 //! place if it does not; the fields of a sheet that reads are taken here. The oracle's own rule
 //! for runs is not used.
 
+use crate::field::Fault;
 use crate::generator::fields;
-use crate::oracle::check;
-
-/// Lowest and highest starting value.
-pub type Range = (i32, i32);
-
-/// A refusal's number, and the place of the field at fault.
-#[derive(Clone, Copy, PartialEq, Eq, Debug)]
-pub struct Fault {
-    pub refusal: u8,
-    pub place: usize,
-}
+use crate::sheet_parts::Range;
+use crate::sheet_reads::reads;
 
 pub struct Statement {
     pub least: u64,
@@ -36,9 +28,6 @@ pub struct Sheet {
 pub const HALT: u8 = 0;
 pub const LOCK: u8 = 7;
 
-/// The numbers of a sheet that does not read are 1 to 9.
-const LAST_OF_SHEET: u8 = 9;
-
 /// "Numbers have the high byte first"; starting values and constants are signed.
 pub fn signed(bytes: &[u8]) -> i32 {
     i32::from_be_bytes([bytes[0], bytes[1], bytes[2], bytes[3]])
@@ -46,11 +35,7 @@ pub fn signed(bytes: &[u8]) -> i32 {
 
 /// Time limit, budget, label and number of locks play no part in a run.
 pub fn read(bytes: &[u8]) -> Result<Sheet, Fault> {
-    // With a buffer of no length the oracle reads the sheet and takes no step.
-    let read = check(bytes, 0);
-    if read.refusal <= LAST_OF_SHEET {
-        return Err(Fault { refusal: read.refusal, place: read.place });
-    }
+    reads(bytes)?;
     let mut sheet = Sheet { variables: Vec::new(), threads: Vec::new() };
     for place in fields(bytes) {
         let body = &bytes[place + 3..];

@@ -3,8 +3,8 @@
 
     record_slips.py CORPUS
 
-Works as slips.py does, on tools/record_follow.rs, and on tools/record_rule.rs with the slips of
-record_rule_slips.py. A second table has the changes that only say a rule in other words. Exit
+Works as slips.py does, on tools/record_follow.rs and tools/field.rs, and on tools/record_rule.rs with
+the slips of record_rule_slips.py. A second table has the changes that only say a rule in other words. Exit
 status 0 if every slip is noticed and no change of words is.
 """
 
@@ -13,32 +13,28 @@ import tempfile
 
 sys.dont_write_bytecode = True
 
+import field_text
 import record_rule_slips
+from field_text import BODY_SHORT, FITTING, HEADER_SHORT, LENGTH, TAG
 from slips import Program
 
-EDITED = ("record_follow", "record_rule")
+EDITED = ("record_follow", "record_rule", "field")
 MODULES = ("records", "record_cases", "record_corpus", "record_damage", "record_faults", "record_runs", "record_sheet", "record_sheets",
-           "command_line", "entries", "generator", "oracle", "random")
+           "sheet_parts", "sheet_reads", "command_line", "entries", "generator", "oracle", "random")
 RECORDS = Program("records", MODULES, "--edition", "2021", edited=EDITED)
 
 slip, same = RECORDS.slip, RECORDS.same
 
 # what stands in record_follow.rs
-HEADER_SHORT = "    if rest.len() < HEADER {\n        return refuse(SHORT);\n    }\n"
-TAG = "    if rest[0] != tag {\n        return refuse(OUT_OF_TURN);\n    }\n"
-LENGTH = "    let length = usize::from(u16::from_be_bytes([rest[1], rest[2]]));\n"
-BODY_SHORT = "    if rest.len() - HEADER < length {\n        return refuse(SHORT);\n    }\n"
-DUE = "    if length != due {\n        return refuse(BAD_LENGTH);\n    }\n"
 ORDER = "    sheet.variables.iter().chain(registers).copied().collect()\n"
 RANGES = "    for (low, high) in ranges(sheet) {\n"
-VALUE = "        let value = signed(body(record, place, START_TAG, START_LENGTH)?);\n"
+VALUE = "        let value = signed(&record[body(record, place, START_TAG, Some(START_LENGTH))?]);\n"
 OUTSIDE = "        if value < low || high < value {\n            return Err(Fault { refusal: OFF_RANGE, place });\n        }\n"
 LONG = "    if record.len() > LONGEST {\n        return Err(Fault { refusal: TOO_LONG, place: 0 });\n    }\n"
 STARTED = "    let (values, mut place) = starting(sheet, record)?;\n"
 BEFORE = "    let mut tick = 0;\n"
 EVENTS = "    while place < record.len() {\n"
 REFUSE = "        let refuse = |refusal| Fault { refusal, place };\n"
-BODY = "        let body = body(record, place, EVENT_TAG, EVENT_LENGTH)?;\n"
 PARTS = "        let (thread, clock) = (usize::from(body[0]), u16::from_be_bytes([body[1], body[2]]));\n"
 ABSENT = "        if thread >= sheet.threads.len() {\n            return Err(refuse(NO_SUCH_NAME));\n        }\n"
 FULL = "        tick += u64::from(clock.wrapping_sub(tick as u16));\n"
@@ -55,7 +51,7 @@ OF_RUN = "        Ok(Ok((finished, tick))) => answer(Fault { refusal: 0, place: 
 slip("9 before the sheet's number", "a record that is too long is 9 though the sheet does not read",
      (OF_SHEET, "        Err(_) if record.len() > LONGEST => answer(Fault { refusal: TOO_LONG, place: 0 }, RECORD, false, 0),\n" + OF_SHEET))
 slip("record before the sheet", "a record without a field is 1 before the sheet's number",
-     (OF_SHEET, "        Err(_) if record.is_empty() => answer(Fault { refusal: SHORT, place: 0 }, RECORD, false, 0),\n" + OF_SHEET))
+     (OF_SHEET, "        Err(_) if record.is_empty() => answer(Fault { refusal: crate::field::SHORT, place: 0 }, RECORD, false, 0),\n" + OF_SHEET))
 slip("sheet's number in the record", "the sheet's own number names the record", (OF_SHEET, OF_SHEET.replace("SHEET", "RECORD")))
 slip("sheet's place 0", "the sheet's own number has place 0", (OF_SHEET, OF_SHEET.replace("fault,", "Fault { place: 0, ..fault },")))
 slip("record's number in the sheet", "a record's number names the sheet", (OF_RECORD, OF_RECORD.replace("RECORD", "SHEET")))
@@ -74,25 +70,24 @@ slip("9 after the fields", "9 is given only where a field lies past 65,536 bytes
 slip("tag before header short", "a tag not due is 2 though its header is cut short",
      (HEADER_SHORT, "    if rest.first().is_some_and(|&first| first != tag) {\n        return refuse(OUT_OF_TURN);\n    }\n" + HEADER_SHORT))
 slip("body short before tag", "a body cut short is 1 though the tag is not due", (TAG + LENGTH + BODY_SHORT, LENGTH + BODY_SHORT + TAG))
-slip("length before body short", "a length that does not fit is 3 though the body is cut short", (BODY_SHORT + DUE, DUE + BODY_SHORT))
-slip("length before tag", "a length that does not fit is 3 though the tag is not due", (TAG + LENGTH + BODY_SHORT + DUE, LENGTH + DUE + TAG + BODY_SHORT))
+slip("length before body short", "a length that does not fit is 3 though the body is cut short", (BODY_SHORT + FITTING, FITTING + BODY_SHORT))
+slip("length before tag", "a length that does not fit is 3 though the tag is not due", (TAG + LENGTH + BODY_SHORT + FITTING, LENGTH + FITTING + TAG + BODY_SHORT))
 slip("header at the end is short", "a header that ends the record is short", (HEADER_SHORT, HEADER_SHORT.replace("<", "<=")))
 slip("body at the end is short", "a body that ends the record is short", (BODY_SHORT, BODY_SHORT.replace("<", "<=")))
 slip("header short is 2", "a header cut short is 2", (HEADER_SHORT, HEADER_SHORT.replace("SHORT", "OUT_OF_TURN")))
 slip("body short is 3", "a body cut short is 3", (BODY_SHORT, BODY_SHORT.replace("SHORT", "BAD_LENGTH")))
 slip("short at the end", "the place of a field cut short is the record's length",
-     (HEADER_SHORT, HEADER_SHORT.replace("refuse(SHORT)", "Err(Fault { refusal: SHORT, place: record.len() })")),
-     (BODY_SHORT, BODY_SHORT.replace("refuse(SHORT)", "Err(Fault { refusal: SHORT, place: record.len() })")))
+     (HEADER_SHORT, HEADER_SHORT.replace("refuse(SHORT)", "Err(Fault { refusal: SHORT, place: file.len() })")),
+     (BODY_SHORT, BODY_SHORT.replace("refuse(SHORT)", "Err(Fault { refusal: SHORT, place: file.len() })")))
 slip("fault at the body", "a malformed field's place is that of its body",
-     ("    let refuse = |refusal| Err(Fault { refusal, place });\n    let rest",
-      "    let refuse = |refusal| Err(Fault { refusal, place: place + HEADER });\n    let rest"))
-slip("longer fields", "a field may have more bytes than it needs", (DUE, DUE.replace("!=", "<")),
+     (field_text.REFUSE, field_text.REFUSE.replace("place }", "place: place + HEADER }")))
+slip("longer fields", "a field may have more bytes than it needs", (FITTING, FITTING.replace("!=", "<")),
      ("place += HEADER + START_LENGTH;", "place += HEADER + usize::from(u16::from_be_bytes([record[place + 1], record[place + 2]]));"),
      (NEXT, "        place += HEADER + body.len();\n"))
 slip("low byte of a length first", "a length has the low byte first", (LENGTH, LENGTH.replace("from_be", "from_le")))
 slip("length in 8 bits", "a length is cut to its low byte", (LENGTH, LENGTH.replace("rest[1]", "0")))
 slip("tags in 7 bits", "tags are compared without the high bit", (TAG, TAG.replace("rest[0]", "rest[0] & 127")))
-slip("either tag", "32 and 33 are both due everywhere", (TAG, TAG.replace("rest[0] != tag", "![START_TAG, EVENT_TAG].contains(&rest[0])")))
+slip("either tag", "32 and 33 are both due everywhere", (TAG, TAG.replace("rest[0] != tag", "![32, 33].contains(&rest[0])")))
 slip("trailing bytes pass", "fewer bytes than a header behind the last field pass", (EVENTS, "    while record.len() - place >= HEADER {\n"))
 slip("trailing start passes", "a starting value behind the last that is due ends the record",
      (EVENTS, "    while place < record.len() && record[place] != START_TAG {\n"))
@@ -117,13 +112,13 @@ slip("registers before variables", "the registers' starting values stand before 
 slip("last thread's registers first", "registers stand by thread from the last to the first",
      (ORDER, ORDER.replace("chain(registers)", "chain(registers.rev())")))
 slip("all values read, then asked", "ranges are asked behind the last starting value",
-     (RANGES, "    for at in 0..ranges(sheet).len() {\n        body(record, at * (HEADER + START_LENGTH), START_TAG, START_LENGTH)?;\n    }\n" + RANGES))
+     (RANGES, "    for at in 0..ranges(sheet).len() {\n        body(record, at * (HEADER + START_LENGTH), START_TAG, Some(START_LENGTH))?;\n    }\n" + RANGES))
 slip("missing start at the last", "a missing starting value has the place of the field before it",
-     (VALUE, "        if place == record.len() && place > 0 {\n            return Err(Fault { refusal: SHORT, place: place - HEADER - START_LENGTH });\n        }\n" + VALUE))
+     (VALUE, "        if place == record.len() && place > 0 {\n            return Err(Fault { refusal: crate::field::SHORT, place: place - HEADER - START_LENGTH });\n        }\n" + VALUE))
 slip("missing start is 0", "a missing starting value has place 0",
-     (VALUE, "        if place == record.len() {\n            return Err(Fault { refusal: SHORT, place: 0 });\n        }\n" + VALUE))
+     (VALUE, "        if place == record.len() {\n            return Err(Fault { refusal: crate::field::SHORT, place: 0 });\n        }\n" + VALUE))
 slip("missing start is 2", "a missing starting value is 2",
-     (VALUE, "        if place == record.len() {\n            return Err(Fault { refusal: OUT_OF_TURN, place });\n        }\n" + VALUE))
+     (VALUE, "        if place == record.len() {\n            return Err(Fault { refusal: crate::field::OUT_OF_TURN, place });\n        }\n" + VALUE))
 slip("empty record is a run", "a record of no bytes is a run of any sheet", (STARTED, "    if record.is_empty() {\n        return Ok((false, 0));\n    }\n" + STARTED))
 slip("off range is 21", "a starting value outside its range is 21", (OUTSIDE, OUTSIDE.replace("OFF_RANGE", "NOT_A_RUN")))
 
@@ -222,7 +217,7 @@ same("finish told apart", "where all stand at halt, no thread is live",
 same("tick is the greatest clock", "the last event's tick is the greatest clock",
      (END, "    let tick = state.threads.iter().map(|own| own.clock).max().unwrap_or(0);\n" + END))
 same("missing start told apart", "an absent field is a header short of all its bytes, at the record's length",
-     (VALUE, "        if place == record.len() {\n            return Err(Fault { refusal: SHORT, place: record.len() });\n        }\n" + VALUE))
+     (VALUE, "        if place == record.len() {\n            return Err(Fault { refusal: crate::field::SHORT, place: record.len() });\n        }\n" + VALUE))
 for name, why, edits in record_rule_slips.SAME:
     same(name, why, *edits)
 

@@ -6,7 +6,7 @@ use crate::oracle::every_run;
 use crate::record_follow::{follow, ranges};
 use crate::record_runs::{event, random_run, record};
 use crate::record_sheet::{read, Sheet};
-use crate::record_sheets::*;
+use crate::sheet_parts::*;
 
 fn numbers(sheet: &[u8], record: &[u8]) -> [usize; 5] {
     follow(sheet, record).numbers()

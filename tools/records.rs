@@ -13,12 +13,13 @@
 //!     records corpus FILE                    the entries that are answered otherwise
 //!
 //! record_follow.rs has the follower, record_rule.rs the rule for runs on single values,
-//! record_corpus.rs describes the corpus, record_cases.rs has the cases; entries.rs and command_line.rs
-//! have what serves other programs too. oracle.rs serves to say whether a sheet reads, generator.rs
-//! for random sheets.
+//! record_corpus.rs describes the corpus, record_cases.rs has the cases; field.rs, sheet_parts.rs,
+//! sheet_reads.rs, entries.rs and command_line.rs have what serves other programs too. oracle.rs serves
+//! to say whether a sheet reads, generator.rs for random sheets.
 
 mod command_line;
 mod entries;
+mod field;
 #[allow(dead_code)]
 mod generator;
 #[allow(dead_code)]
@@ -34,11 +35,14 @@ mod record_sheet;
 mod record_sheets;
 #[cfg(test)]
 mod record_tests;
+mod sheet_parts;
+mod sheet_reads;
 
 use command_line::{contents, fail, parsed, write};
+use field::HEADER;
 use generator::Random;
 use record_corpus::Record;
-use record_follow::{EVENT_LENGTH, HEADER, START_LENGTH};
+use record_follow::{EVENT_LENGTH, START_LENGTH};
 use std::env;
 
 const NAME: &str = "records";

@@ -3,7 +3,7 @@
 
     shelf_slips.py CORPUS
 
-Works as slips.py does, on tools/shelves.rs. Where a slip changes what a function gives,
+Works as slips.py does, on tools/shelves.rs and tools/field.rs. Where a slip changes what a function gives,
 that function has the name `plain` and stands behind another in its place. A second table
 has the changes that only say a rule in other words. Exit status 0 if every slip is noticed
 and no change of words is.
@@ -14,21 +14,15 @@ import tempfile
 
 sys.dont_write_bytecode = True
 
+from field_text import BODY, BODY_SHORT, FITTING, HEADER_SHORT, LENGTH, TAG
 from slips import Program
 
 MODULES = ("command_line", "entries", "lookup_cases", "lookup_corpus", "lookup_files", "lookup_random", "random")
-SHELVES = Program("shelves", MODULES, "--edition", "2021")
+SHELVES = Program("shelves", MODULES, "--edition", "2021", edited=("shelves", "field"))
 
 slip, same = SHELVES.slip, SHELVES.same
 
 # what stands in shelves.rs
-BODY = "fn body(file: &[u8], place: usize, tag: u8, fitting: Option<usize>) -> Result<Range<usize>, Fault> {\n"
-HEADER_SHORT = "    if rest.len() < HEADER {\n        return refuse(SHORT);\n    }\n"
-TAG = "    if rest[0] != tag {\n        return refuse(OUT_OF_TURN);\n    }\n"
-LENGTH = "    let length = usize::from(u16::from_be_bytes([rest[1], rest[2]]));\n"
-BODY_SHORT = "    if rest.len() - HEADER < length {\n        return refuse(SHORT);\n    }\n"
-FITTING = "    if fitting.is_some_and(|fitting| length != fitting) {\n        return refuse(BAD_LENGTH);\n    }\n"
-
 SHEET_OF = "fn sheet_of(name: u8, file: &[u8]) -> Result<Option<Range<usize>>, Fault> {\n"
 START = "    let mut place = 0;\n"
 PAIRS = "    while place < file.len() {\n"
@@ -103,7 +97,7 @@ slip("fault in the customer's", "a malformed field names the customer's file", a
 slip("5 in the customer's", "5 names the customer's file", (NOWHERE, "refused(NO_SUCH_NAME, CUSTOMER, 0)"))
 slip("5 at the house's end", "5's place is the length of the house's file", (NOWHERE, "refused(NO_SUCH_NAME, HOUSE, house.len())"))
 slip("5 at the customer's end", "5's place is the length of the customer's file", (NOWHERE, "refused(NO_SUCH_NAME, HOUSE, customer.len())"))
-slip("5 is 1", "a name that no pair has is 1", (NOWHERE, "refused(SHORT, HOUSE, 0)"))
+slip("5 is 1", "a name that no pair has is 1", (NOWHERE, "refused(field::SHORT, HOUSE, 0)"))
 slip("255 pairs", "of each file 255 pairs are looked at",
      (START, START + "    let mut pairs = 0;\n"), (PAIRS, "    while place < file.len() && pairs < 255 {\n        pairs += 1;\n"))
 for name, what, test in (
@@ -116,7 +110,7 @@ for name, what, test in (
 
 # ---- the place and the part
 
-slip("place of the sheet's field", "the place is that of the sheet's field", answer_if("found.refusal == 0", "place: found.place - HEADER"))
+slip("place of the sheet's field", "the place is that of the sheet's field", answer_if("found.refusal == 0", "place: found.place - field::HEADER"))
 slip("place of the name's field", "the place is that of the name's field", answer_if("found.refusal == 0", "place: found.place - 7"))
 slip("place of the sheet's end", "the place is that behind the sheet", answer_if("found.refusal == 0", "place: found.place + found.part.len()"))
 slip("empty sheet at 0", "an empty sheet's place is 0", answer_if("found.refusal == 0 && found.part.is_empty()", "place: 0"))
@@ -126,7 +120,7 @@ slip("place in 16 bits", "a place is cut to two bytes", answer_if("true", "place
 slip("place in 17 bits", "a place is cut to 17 bits", answer_if("true", "place: found.place & 0x1FFFF"))
 slip("place in 8 bits", "a place is cut to a byte", answer_if("true", "place: found.place & 0xFF"))
 slip("part with its header", "the part begins with its header",
-     (FOUND, "Found { refusal: 0, file, place: sheet.start, part: &bytes[sheet.start - HEADER..sheet.end] }"))
+     (FOUND, "Found { refusal: 0, file, place: sheet.start, part: &bytes[sheet.start - field::HEADER..sheet.end] }"))
 slip("part without its last byte", "the part's last byte is missing", answer_if("!found.part.is_empty()", "part: &found.part[..found.part.len() - 1]"))
 slip("part without its first byte", "the part's first byte is missing", answer_if("!found.part.is_empty()", "part: &found.part[1..]"))
 slip("part to the file's end", "the part ends where the file ends", (FOUND, "Found { refusal: 0, file, place: sheet.start, part: &bytes[sheet.start..] }"))
@@ -160,14 +154,14 @@ slip("short body handed back", "a body cut short ends where the file ends",
 slip("body short by one handed back", "a body cut short by one byte ends where the file ends",
      (BODY_SHORT, "    let length = if length == rest.len() - HEADER + 1 { length - 1 } else { length };\n" + BODY_SHORT))
 slip("no tag told", "2 is not given", (TAG, ""))
-slip("name's tag not told", "2 is not given where a name is due", (TAG, TAG.replace("rest[0] != tag", "rest[0] != tag && tag != NAME_TAG")))
-slip("sheet's tag not told", "2 is not given where a sheet is due", (TAG, TAG.replace("rest[0] != tag", "rest[0] != tag && tag != SHEET_TAG")))
-slip("either tag", "48 and 49 are both due everywhere", (TAG, TAG.replace("rest[0] != tag", "rest[0] != NAME_TAG && rest[0] != SHEET_TAG")))
+slip("name's tag not told", "2 is not given where a name is due", (TAG, TAG.replace("rest[0] != tag", "rest[0] != tag && tag != crate::NAME_TAG")))
+slip("sheet's tag not told", "2 is not given where a sheet is due", (TAG, TAG.replace("rest[0] != tag", "rest[0] != tag && tag != crate::SHEET_TAG")))
+slip("either tag", "48 and 49 are both due everywhere", (TAG, TAG.replace("rest[0] != tag", "rest[0] != crate::NAME_TAG && rest[0] != crate::SHEET_TAG")))
 slip("tags in 7 bits", "tags are compared without the high bit", (TAG, TAG.replace("rest[0]", "rest[0] & 127")))
 slip("tags up to", "a tag below the one due is read", (TAG, TAG.replace("!=", ">")))
 slip("tags from", "a tag above the one due is read", (TAG, TAG.replace("!=", "<")))
 slip("no length told", "a name's field may have any length, the first byte counts, none is 1",
-     (NAMED, NAMED.replace("Some(1)", "None") + "        if named.is_empty() {\n            return Err(Fault { refusal: SHORT, place });\n        }\n"))
+     (NAMED, NAMED.replace("Some(1)", "None") + "        if named.is_empty() {\n            return Err(Fault { refusal: field::SHORT, place });\n        }\n"))
 slip("longer names", "a name's field may have more bytes, the first counts",
      (FITTING, FITTING.replace("length != fitting", "length < fitting")))
 slip("longer names, the last byte counts", "a name's field may have more bytes, the last counts",
@@ -179,7 +173,7 @@ for length in (2, 256, 257):
          (FITTING, FITTING.replace("length != fitting", f"length != fitting && length != {length}")))
 slip("empty sheet is 3", "an empty sheet is 3",
      for_body("    match found {\n        Ok(body) if body.is_empty() => Err(Fault { refusal: BAD_LENGTH, place }),\n        found => found,\n    }\n"))
-slip("sheet of 1 is 3", "a sheet of one byte is 3", (FITTING, FITTING + "    if length == 1 && tag == SHEET_TAG {\n        return refuse(BAD_LENGTH);\n    }\n"))
+slip("sheet of 1 is 3", "a sheet of one byte is 3", (FITTING, FITTING + "    if length == 1 && tag == crate::SHEET_TAG {\n        return refuse(BAD_LENGTH);\n    }\n"))
 slip("low byte first", "a length has the low byte first", (LENGTH, LENGTH.replace("from_be", "from_le")))
 slip("length in 8 bits", "a length is cut to its low byte", (LENGTH, LENGTH.replace("rest[1]", "0")))
 slip("length in 15 bits", "a length is cut to 15 bits", (LENGTH, LENGTH.replace("rest[1]", "rest[1] & 127")))
@@ -199,7 +193,7 @@ slip("fault at the end", "a malformed field's place is the file's length", fault
 slip("header short at the end", "the place of a header cut short is the file's length", fault_if("file.len() - place < HEADER", "place: file.len()"))
 slip("body short at the end", "the place of a body cut short is the file's length",
      fault_if("fault.refusal == SHORT && file.len() - place >= HEADER", "place: file.len()"))
-AT_NAME = "tag == SHEET_TAG"
+AT_NAME = "tag == crate::SHEET_TAG"
 slip("sheet's fault at the name", "a malformed sheet's field is told at its name's place", fault_if(AT_NAME, "place: place - 4"))
 slip("absent sheet at the name", "an absent sheet's field is told at its name's place", fault_if(f"{AT_NAME} && place == file.len()", "place: place - 4"))
 slip("cut header at the name", "a sheet's header cut short is told at its name's place",
@@ -208,7 +202,7 @@ slip("short sheet at the name", "a sheet's body cut short is told at its name's 
      fault_if(f"{AT_NAME} && fault.refusal == SHORT && file.len() - place >= HEADER", "place: place - 4"))
 slip("tag at the name", "a tag not due where a sheet is, is told at its name's place", fault_if(f"{AT_NAME} && fault.refusal == OUT_OF_TURN", "place: place - 4"))
 slip("absent sheet is 2", "an absent sheet's field is 2", fault_if("place == file.len()", "refusal: OUT_OF_TURN"))
-slip("absent sheet is 5", "an absent sheet's field is 5", fault_if("place == file.len()", "refusal: NO_SUCH_NAME"))
+slip("absent sheet is 5", "an absent sheet's field is 5", fault_if("place == file.len()", "refusal: crate::NO_SUCH_NAME"))
 
 # ---- what stops the look, and what is seen
 
@@ -219,7 +213,7 @@ slip("next pair judged", "a fault in the pair right behind the one found is told
      for_file("    if let Ok(Some(sheet)) = &found {\n        if sheet.end < file.len() {\n            let named = body(file, sheet.end, NAME_TAG, Some(1))?;\n"
               "            body(file, named.end, SHEET_TAG, None)?;\n        }\n    }\n    found\n"))
 slip("bytes behind the hit", "bytes behind the pair found, fewer than a header, are 1",
-     for_file("    match found {\n        Ok(Some(sheet)) if (1..HEADER).contains(&(file.len() - sheet.end)) => Err(Fault { refusal: SHORT, place: sheet.end }),\n"
+     for_file("    match found {\n        Ok(Some(sheet)) if (1..field::HEADER).contains(&(file.len() - sheet.end)) => Err(Fault { refusal: field::SHORT, place: sheet.end }),\n"
               "        found => found,\n    }\n"))
 slip("house's judged behind a hit", "a fault of the house's file is told though the customer's has the name",
      for_answer("    if found.refusal == 0 && found.file == CUSTOMER {\n        if let Err(fault) = sheet_of(name, house) {\n"
@@ -238,7 +232,7 @@ slip("house's fault first", "of two faults the house's is told",
                 "            return Found { refusal: fault.refusal, file: HOUSE, place: fault.place, part: &house[..0] };\n        }\n    }\n    found\n"))
 PASSES = "        let other = file[named.start] != name;\n        let sheet = match body(file, named.end, SHEET_TAG, None) {{\n            Err({}) if other{} => return Ok(None),\n            sheet => sheet?,\n        }};\n"
 slip("another name's absent sheet passes", "an absent sheet of another name ends the file", (SHEET, PASSES.format("fault", " && fault.place == file.len()")))
-slip("another name's short sheet passes", "a sheet of another name that is cut short ends the file", (SHEET, PASSES.format("fault", " && fault.refusal == SHORT")))
+slip("another name's short sheet passes", "a sheet of another name that is cut short ends the file", (SHEET, PASSES.format("fault", " && fault.refusal == field::SHORT")))
 slip("another name's sheet passes", "a malformed sheet of another name ends the file", (SHEET, PASSES.format("_", "")))
 slip("another name's sheet not judged by its tag", "a sheet of another name may have any tag",
      (SHEET, "        let tag = match file.get(named.end) {\n            Some(&tag) if file[named.start] != name => tag,\n            _ => SHEET_TAG,\n        };\n"
@@ -248,8 +242,8 @@ slip("name's absent sheet is empty", "an absent sheet of the name is an empty sh
 slip("name's sheet found unjudged", "a malformed sheet of the name is an empty sheet",
      (SHEET, "        let sheet = match body(file, named.end, SHEET_TAG, None) {\n            Err(fault) if file[named.start] == name => fault.place..fault.place,\n            sheet => sheet?,\n        };\n"))
 slip("name compared before its field", "a name's field that has the name where it is due is not judged",
-     (NAMED, "        let named = match file.get(place + HEADER) {\n            Some(&first) if first == name => place + HEADER..place + 4,\n            _ => body(file, place, NAME_TAG, Some(1))?,\n        };\n"))
-slip("trailing bytes pass", "fewer bytes than a header behind the last pair pass", (PAIRS, "    while file.len() - place >= HEADER {\n"))
+     (NAMED, "        let named = match file.get(place + field::HEADER) {\n            Some(&first) if first == name => place + field::HEADER..place + 4,\n            _ => body(file, place, NAME_TAG, Some(1))?,\n        };\n"))
+slip("trailing bytes pass", "fewer bytes than a header behind the last pair pass", (PAIRS, "    while file.len() - place >= field::HEADER {\n"))
 slip("one trailing byte passes", "one byte behind the last pair passes", (PAIRS, "    while file.len() - place > 1 {\n"))
 slip("trailing zeros pass", "zeros behind the last pair pass", (PAIRS, "    while file[place..].iter().any(|&byte| byte != 0) {\n"))
 slip("empty file is 1", "an empty file is 1", (PAIRS, "    while place < file.len() || place == 0 {\n"))
@@ -273,7 +267,7 @@ same("empty name before body short", "a body of no bytes is never short",
 same("name compared before the sheet", "a sheet is judged whether its name is the one looked for or not",
      (SHEET, "        let is_name = file[named.start] == name;\n" + SHEET), (HIT, "        if is_name {\n"))
 same("absent sheet told apart", "an absent field is a header short of all its bytes, at the file's length",
-     (SHEET, "        if named.end == file.len() {\n            return Err(Fault { refusal: SHORT, place: file.len() });\n        }\n" + SHEET))
+     (SHEET, "        if named.end == file.len() {\n            return Err(Fault { refusal: field::SHORT, place: file.len() });\n        }\n" + SHEET))
 same("house's file read first", "what it gives is looked at only behind the customer's miss",
      for_answer("    let house_first = sheet_of(name, house);\n    match (sheet_of(name, customer), house_first) {\n"
                 "        (Ok(None), Ok(Some(sheet))) => Found { refusal: 0, file: HOUSE, place: sheet.start, part: &house[sheet] },\n        _ => found,\n    }\n"))

@@ -11,29 +11,26 @@
 //!     shelves list FILE                   each entry as text: its name and numbers, then the files
 //!     shelves corpus FILE                 the entries that are answered otherwise
 //!
-//! lookup_corpus.rs describes the corpus, lookup_cases.rs has the cases; entries.rs and command_line.rs
-//! have what serves other programs too. Sentences in quotation marks are those of the specification.
+//! lookup_corpus.rs describes the corpus, lookup_cases.rs has the cases; field.rs, entries.rs and
+//! command_line.rs have what serves other programs too. Sentences in quotation marks are those of the specification.
 
 mod command_line;
 mod entries;
+mod field;
 mod lookup_cases;
 mod lookup_corpus;
 
 use command_line::{contents, fail, parsed, write};
+use field::{body, Fault};
 use lookup_corpus::Lookup;
 use std::env;
 use std::ops::Range;
 
-pub const SHORT: u8 = 1;
-pub const OUT_OF_TURN: u8 = 2;
-pub const BAD_LENGTH: u8 = 3;
 pub const NO_SUCH_NAME: u8 = 5;
 
 pub const CUSTOMER: u8 = 0;
 pub const HOUSE: u8 = 1;
 
-/// "Fields are a one-byte tag, a two-byte length, then the body."
-const HEADER: usize = 3;
 const NAME_TAG: u8 = 48;
 const SHEET_TAG: u8 = 49;
 
@@ -52,34 +49,6 @@ impl Found<'_> {
     pub fn numbers(&self) -> [usize; 4] {
         [self.refusal.into(), self.file.into(), self.place, self.part.len()]
     }
-}
-
-/// A malformed field.
-struct Fault {
-    refusal: u8,
-    place: usize,
-}
-
-/// Where the body of the field at this place stands. A field of this tag is due there; if
-/// `fitting` is given, no other length fits it.
-fn body(file: &[u8], place: usize, tag: u8, fitting: Option<usize>) -> Result<Range<usize>, Fault> {
-    let refuse = |refusal| Err(Fault { refusal, place });
-    let rest = &file[place..];
-    if rest.len() < HEADER {
-        return refuse(SHORT);
-    }
-    if rest[0] != tag {
-        return refuse(OUT_OF_TURN);
-    }
-    let length = usize::from(u16::from_be_bytes([rest[1], rest[2]]));
-    if rest.len() - HEADER < length {
-        return refuse(SHORT);
-    }
-    if fitting.is_some_and(|fitting| length != fitting) {
-        return refuse(BAD_LENGTH);
-    }
-    let start = place + HEADER;
-    Ok(start..start + length)
 }
 
 /// Where the sheet of the first pair with this name stands, if there is one.

@@ -1,6 +1,7 @@
 /*
- * The stack that the library's call uses: each sheet of a corpus is checked on a painted stack, and the deepest byte that changed
- * is found.
+ * The stack that a call of zumbeiry_check, zumbeiry_change_times and zumbeiry_preview uses: with each sheet of a corpus each is made on
+ * a painted stack, and the deepest byte that changed is found. The new times are those that the sheet's first statement has, so that
+ * the preview gives the numbers of the check, and the change leaves the sheet as it is.
  *
  *     stack CORPUS     corpus.rs describes the file
  */
@@ -10,7 +11,6 @@
 #include <pthread.h>
 #include <stdio.h>
 #include <stdlib.h>
-#include <string.h>
 
 #define STACK ((size_t)1 << 18)
 #define PAINT 0xA5
@@ -18,25 +18,64 @@
 #define WRONG 1  /* planted in an entry: one of its numbers is wrong on purpose */
 
 static unsigned char stack[STACK] __attribute__((aligned(4096)));
-static const uint8_t *sheet;
-static size_t sheet_length, work_length, depth;
+static uint8_t *sheet, copy[65536];
+static size_t sheet_length, work_length, least, greatest, depth;
 static int32_t work[65536];
 static uint64_t answer[5];
 
+static void check(void)
+{
+    zumbeiry_check(sheet, sheet_length, work, work_length, answer, 5);
+}
+
+static void change(void)
+{
+    zumbeiry_change_times(sheet, sheet_length, 0, 0, least, greatest, answer, 2);
+}
+
+static void preview(void)
+{
+    zumbeiry_preview(sheet, sheet_length, copy, sizeof copy, work, work_length, 0, 0, least, greatest, answer, 5);
+}
+
+struct measured {
+    const char *name;
+    void (*call)(void);
+    size_t most, entry; /* bytes, and the first entry that needs them */
+};
+
+static struct measured all[] = {
+    {"zumbeiry_check", check, 0, 0},
+    {"zumbeiry_change_times", change, 0, 0},
+    {"zumbeiry_preview", preview, 0, 0},
+};
+
 /* The call comes from here, so that what lies below this frame is the call's. */
-static __attribute__((noinline)) void *painted(void *unused)
+static __attribute__((noinline)) void *painted(void *measured)
 {
     unsigned char *here = __builtin_frame_address(0);
     volatile unsigned char *at;
-    (void)unused;
     /* 256 bytes are left for this function's own */
     for (at = stack; at < here - 256; at++)
         *at = PAINT;
-    zumbeiry_check(sheet, sheet_length, work, work_length, answer, 5);
+    ((struct measured *)measured)->call();
     for (at = stack; *at == PAINT; at++)
         ;
     depth = (size_t)(here - (unsigned char *)at);
     return NULL;
+}
+
+static void run_painted(struct measured *measured)
+{
+    pthread_attr_t attributes;
+    pthread_t thread;
+    pthread_attr_init(&attributes);
+    if (pthread_attr_setstack(&attributes, stack, STACK) != 0
+        || pthread_create(&thread, &attributes, painted, measured) != 0 || pthread_join(thread, NULL) != 0) {
+        fprintf(stderr, "stack: no thread\n");
+        exit(2);
+    }
+    pthread_attr_destroy(&attributes);
 }
 
 static size_t number(const uint8_t *bytes, int count)
@@ -47,6 +86,46 @@ static size_t number(const uint8_t *bytes, int count)
     return value;
 }
 
+/* The times in the sheet's first field of tag 6; zeros if there is none. */
+static void take_times(void)
+{
+    size_t at = 0;
+    while (at + 7 <= sheet_length && sheet[at] != 6)
+        at += 3 + number(sheet + at + 1, 2);
+    int there = at + 7 <= sheet_length;
+    least = there ? number(sheet + at + 3, 2) : 0;
+    greatest = there ? number(sheet + at + 5, 2) : 0;
+}
+
+/* Whether the answer is what the entry says; of the change, whose search is left out, 0 for a sheet that reads. */
+static int expected(const struct measured *measured, const uint8_t *entry)
+{
+    if (entry[19] == WRONG)
+        return 1;
+    if (measured->call == change)
+        return answer[0] == (entry[4] <= 9 ? entry[4] : 0);
+    return answer[0] == entry[4] && answer[2] == number(entry + 7, 4);
+}
+
+static void measure(uint8_t *entry, size_t index)
+{
+    sheet_length = number(entry, 2);
+    work_length = number(entry + 2, 2);
+    sheet = entry + FRONT;
+    take_times();
+    for (struct measured *measured = all; measured < all + 3; measured++) {
+        run_painted(measured);
+        if (!expected(measured, entry)) {
+            fprintf(stderr, "stack: %s answers entry %zu otherwise\n", measured->name, index);
+            exit(1);
+        }
+        if (depth > measured->most) {
+            measured->most = depth;
+            measured->entry = index;
+        }
+    }
+}
+
 int main(int count, char **arguments)
 {
     static uint8_t corpus[1 << 24];
@@ -55,30 +134,12 @@ int main(int count, char **arguments)
         fprintf(stderr, "usage: stack CORPUS\n");
         return 2;
     }
-    size_t length = fread(corpus, 1, sizeof corpus, file), entries = 0, most = 0, most_entry = 0;
+    size_t length = fread(corpus, 1, sizeof corpus, file), entries = 0;
     fclose(file);
-    for (size_t at = 4; at + FRONT <= length; at += FRONT + sheet_length, entries++) {
-        pthread_attr_t attributes;
-        pthread_t thread;
-        sheet_length = number(corpus + at, 2);
-        work_length = number(corpus + at + 2, 2);
-        sheet = corpus + at + FRONT;
-        pthread_attr_init(&attributes);
-        if (pthread_attr_setstack(&attributes, stack, STACK) != 0
-            || pthread_create(&thread, &attributes, painted, NULL) != 0 || pthread_join(thread, NULL) != 0) {
-            fprintf(stderr, "stack: no thread\n");
-            return 2;
-        }
-        pthread_attr_destroy(&attributes);
-        if (corpus[at + 19] != WRONG && (answer[0] != corpus[at + 4] || answer[2] != number(corpus + at + 7, 4))) {
-            fprintf(stderr, "stack: entry %zu is answered otherwise\n", entries);
-            return 1;
-        }
-        if (depth > most) {
-            most = depth;
-            most_entry = entries;
-        }
-    }
-    printf("%zu sheets: at most %zu bytes of stack, on entry %zu\n", entries, most, most_entry);
+    for (size_t at = 4; at + FRONT <= length; at += FRONT + sheet_length)
+        measure(corpus + at, entries++);
+    printf("%zu sheets\n", entries);
+    for (struct measured *measured = all; measured < all + 3; measured++)
+        printf("%s: at most %zu bytes of stack, on entry %zu\n", measured->name, measured->most, measured->entry);
     return 0;
 }

@@ -1,12 +1,11 @@
 #!/usr/bin/env python3
 """Tries ./zumbeiry check: on every sheet of sheets/, as text and as bytes, and on inputs that are broken on purpose. Then
-building, by try_building.py, ./zumbeiry find, by try_find.py, tools/shelf_file.py, by try_shelf_file.py, and ./zumbeiry
-follow, by try_follow.py.
+building, by try_building.py, ./zumbeiry find, by try_find.py, tools/shelf_file.py, by try_shelf_file.py, ./zumbeiry follow, by
+try_follow.py, and ./zumbeiry preview, by try_preview.py and try_written.py.
 
     python3 tools/try_command.py
 
-The command first builds target/bin/label_main, target/bin/shelf_main and target/bin/record_main, if need be. The last
-line is 'N passed, 0 failed'.
+The command first builds its four programs in target/bin/, if need be. The last line is 'N passed, 0 failed'.
 """
 
 import os
@@ -19,11 +18,14 @@ sys.dont_write_bytecode = True
 
 import follower
 import lookup
+import preview
 import sheet
 import try_building
 import try_find
 import try_follow
+import try_preview
 import try_shelf_file
+import try_written
 import words
 from calls import B, Call, ROOT, cannot, copied, counts, expect, in_folder, text_of
 
@@ -191,7 +193,7 @@ def try_usage(folder):
 def try_readme():
     text = text_of("README.md")
     rows = re.findall(r"^\| (\d+) (.+) \| (.+) \| (.+) \|$", text, re.MULTILINE)
-    tables = {"check": words.REFUSALS, "find": lookup.REFUSALS, "follow": follower.REFUSALS}
+    tables = {"check": words.REFUSALS, "find": lookup.REFUSALS, "follow": follower.REFUSALS, "preview": preview.REFUSALS}
     for verb, refusals in tables.items():
         table = [(str(number), *row) for number, row in refusals.items()]
         expect(f"README's table of refusals is that of {verb}", [row for row in rows if row in table] == table, rows)
@@ -201,8 +203,9 @@ def try_readme():
 
 
 def main():
-    follow = ["follow", "sheets/B.txt", "sheets/B-at-3.rec"]
-    for arguments in (["check", "sheets/B.txt"], ["find", "--check", "10", *try_find.EXAMPLES], follow):
+    find, follow = ["--check", "10", *try_find.EXAMPLES], ["sheets/B.txt", "sheets/B-at-3.rec"]
+    calls = (["check", "sheets/B.txt"], ["find", *find], ["follow", *follow], ["preview", "sheets/B.txt", *try_preview.ASKED])
+    for arguments in calls:
         subprocess.run([os.path.join(ROOT, "zumbeiry"), *arguments], cwd=ROOT)
     with tempfile.TemporaryDirectory() as folder:
         try_sheets(folder)
@@ -217,6 +220,8 @@ def main():
         try_find.try_all(folder, copy)
         try_shelf_file.try_all(folder)
         try_follow.try_all(folder, copy)
+        try_preview.try_all(folder, copy)
+        try_written.try_all(folder, copy)
     print(f"{counts[True]} passed, {counts[False]} failed")
     return 1 if counts[False] else 0
 

@@ -52,6 +52,7 @@ REFUSALS = {
         "a result may leave the 32-bit values (the number may be too large for the board)",
         "narrow the ranges, or test the registers first, with < in an if of its own",
     ),
+    19: ("output full", "a lent buffer is too short for what goes into it (preview alone gives this)", "see what preview says"),
     21: ("not a run", "what the machine recorded is not a run of the sheet (follow alone gives this)", "see what follow says"),
 }
 

@@ -1,7 +1,8 @@
 /*
- * The library's three calls. `rt staticlib label` writes target/staticlib/liblabel.a, with zumbeiry_check, `rt staticlib shelf`
- * writes target/staticlib/libshelf.a, with zumbeiry_find, and `rt staticlib record` target/staticlib/librecord.a, with
- * zumbeiry_follow (x86-64). A program links the archive of the call that it makes.
+ * The library's five calls. `rt staticlib label` writes target/staticlib/liblabel.a, with zumbeiry_check, `rt staticlib shelf`
+ * writes target/staticlib/libshelf.a, with zumbeiry_find, `rt staticlib record` target/staticlib/librecord.a, with zumbeiry_follow,
+ * and `rt staticlib retime` target/staticlib/libretime.a, with zumbeiry_change_times and zumbeiry_preview (x86-64). A program links
+ * the archive of the call that it makes.
  */
 #ifndef ZUMBEIRY_H
 #define ZUMBEIRY_H
@@ -102,6 +103,69 @@ uint32_t zumbeiry_find(uint8_t name,
 uint32_t zumbeiry_follow(const uint8_t *sheet, size_t sheet_length,
                          const uint8_t *record, size_t record_length,
                          uint64_t *answer, size_t answer_length);
+
+/*
+ * Sets new times on one statement of a sheet, named by its thread and by its number in the thread, both from 0: the four bytes of
+ * its least and greatest time are written, and no other byte of the sheet.
+ *
+ * Two numbers go to answer[0] and answer[1], in this order:
+ *
+ *     refusal   0: the change is made; 1 to 9: the sheet does not read, as in zumbeiry_check; of a sheet that reads, 5: no such
+ *               statement; else 4: times that the statement may not have (halt takes 0 and 0; any other a least of 1 or more,
+ *               and a greatest from that up to 65,535)
+ *     place     of a sheet that does not read as in zumbeiry_check, else 0
+ *
+ * Where it is refused, the sheet is as it was. A 5 with place 0 is always that of the statement; a 4 with place 0 may be that of
+ * the sheet's first field, which zumbeiry_check then gives too.
+ *
+ * It is proved that the changed sheet reads, as the same program with those times.
+ *
+ * An array of fewer than two numbers is left as it is, and the numbers after the second too; the change is made all the same. The
+ * refusal is returned.
+ *
+ * The sheet may have any length, thread, statement and times any value. Nothing is allocated or kept between calls: threads may
+ * call at the same time, each with its own sheet and answer. A call needs stack: docs/PERFORMANCE.md has the size.
+ *
+ * The caller sees to it that each pointer has that many writable numbers, aligned for their type and not null even where the
+ * length is 0, and that the answer does not overlap the sheet.
+ */
+uint32_t zumbeiry_change_times(uint8_t *sheet, size_t sheet_length,
+                               size_t thread, size_t statement,
+                               uint64_t least, uint64_t greatest,
+                               uint64_t *answer, size_t answer_length);
+
+/*
+ * Says what zumbeiry_check would answer if a statement had new times: a copy of the sheet is changed as by zumbeiry_change_times and
+ * then checked with the work buffer. The sheet itself is only read.
+ *
+ * Five numbers go to answer[0] to answer[4], in this order:
+ *
+ *     refusal   0: the label may stay with those times; 1 to 9: the sheet does not read; of a sheet that reads, 19: the copy
+ *               buffer is shorter than the sheet; else 5 or 4 of the change; else 10 to 16 as in zumbeiry_check
+ *     place     of a sheet that does not read, and for 10 and 16, as in zumbeiry_check, else 0
+ *     steps     the steps that the search took, 0 if there was none
+ *     low       for refusals 0 and 15 the window's low end, else 0
+ *     high      likewise its high end
+ *
+ * It is proved that, where the change is not refused, they are the five numbers that zumbeiry_check gives of the changed sheet with a
+ * work buffer of that length; so what is said of its numbers holds of these.
+ *
+ * An array of fewer than five numbers is left as it is, and the numbers after the fifth too. The refusal is returned.
+ *
+ * Copy and work buffer may have any length and any contents, and are all zeros afterwards, in every case and to their ends; a state
+ * takes 100 numbers of the work buffer. The sheet may have any length, thread, statement and times any value. Nothing is allocated
+ * or kept between calls: threads may call at the same time, each with its own buffers and answer. A call needs stack:
+ * docs/PERFORMANCE.md has the size.
+ *
+ * The caller sees to it that each pointer has that many readable (copy, work and answer: writable) numbers, aligned for their type
+ * and not null even where the length is 0, and that copy, work and answer overlap neither each other nor the sheet.
+ */
+uint32_t zumbeiry_preview(const uint8_t *sheet, size_t sheet_length,
+                          uint8_t *copy, size_t copy_length,
+                          int32_t *work, size_t work_length,
+                          size_t thread, size_t statement,
+                          uint64_t least, uint64_t greatest,
+                          uint64_t *answer, size_t answer_length);
 
 #ifdef __cplusplus
 }

@@ -1,5 +1,5 @@
 //! zumbeiry_find for Rust; zumbeiry.h says what it promises. It links libshelf.a, and is a file of its own so that a program
-//! that makes one of the three calls needs that call's archive alone.
+//! needs the archives of its own calls alone.
 
 #[link(name = "shelf", kind = "static")]
 extern "C" {

@@ -3,7 +3,8 @@ ghost use mathlib.Core.Path.{_≡_};
 ghost use mathlib.Core.Bool.{true, cond, _&&_};
 ghost use Prim.Native.Nat.{_+_, _*_, _<_, _≤_};
 ghost use lib.Dec.{ltb};
-ghost use lib.ListN.{length, drop};
+ghost use lib.IntN.{pos};
+ghost use lib.ListN.{length, drop, replicate};
 
 // No count goes beyond this, so that none wraps.
 const MOST: u64 = 1000000;
@@ -31,6 +32,13 @@ pub fn four(a: u8, b: u8, c: u8, d: u8) -> u64
     two(a, b) * 65536 + two(c, d)
 }
 
+// The same of eight.
+pub fn eight(a: u8, b: u8, c: u8, d: u8, e: u8, f: u8, g: u8, h: u8) -> u64
+    ensures { λ r. ⌜ r ≡ (((a * 256 + b) * 256 + c) * 256 + d) * 4294967296 + (((e * 256 + f) * 256 + g) * 256 + h) ⌝ }
+{
+    four(a, b, c, d) * 4294967296 + four(e, f, g, h)
+}
+
 pub fn both(a: bool, b: bool) -> bool
     ensures { λ r. ⌜ r ≡ (a && b) ⌝ }
 {
@@ -50,6 +58,48 @@ pub fn counted(n: u64, fact: bool) -> u64
         }
     }
     n
+}
+
+// What a work buffer holds before each call.
+pub const FILLED: i32 = 7;
+
+pub fn fill(work: &mut [i32])
+    ensures { λ _. ⌜ now (work .exit) ≡ replicate (length (now (work .entry))) (pos 7) ⌝ }
+{
+    let mut i: usize = 0;
+    while i < work.len() {
+        work[i] = FILLED;
+        i += 1;
+    }
+}
+
+// Whether every number is this one.
+fn all_numbers(work: &[i32], value: i32) -> bool
+    ensures { λ r. ⌜ (r ≡ true → now (work .entry) ≡ replicate (length (now (work .entry))) value) ⌝ }
+    ensures { λ r. ⌜ (now (work .entry) ≡ replicate (length (now (work .entry))) value → r ≡ true) ⌝ }
+{
+    let mut i: usize = 0;
+    while i < work.len() {
+        if work[i] != value {
+            return false;
+        }
+        i += 1;
+    }
+    true
+}
+
+pub fn filled(work: &[i32]) -> bool
+    ensures { λ r. ⌜ (r ≡ true → now (work .entry) ≡ replicate (length (now (work .entry))) (pos 7)) ⌝ }
+    ensures { λ r. ⌜ (now (work .entry) ≡ replicate (length (now (work .entry))) (pos 7) → r ≡ true) ⌝ }
+{
+    all_numbers(work, FILLED)
+}
+
+pub fn zeros(work: &[i32]) -> bool
+    ensures { λ r. ⌜ (r ≡ true → now (work .entry) ≡ replicate (length (now (work .entry))) (pos 0)) ⌝ }
+    ensures { λ r. ⌜ (now (work .entry) ≡ replicate (length (now (work .entry))) (pos 0) → r ≡ true) ⌝ }
+{
+    all_numbers(work, 0)
 }
 
 // Reads the next n bytes of standard input to the front of the buffer; false where there are fewer, or where the buffer is shorter.

@@ -4,20 +4,21 @@
 //
 // Some entries are planted, so that the comparison itself is tried: one of their numbers is wrong, or the program changes a number
 // of the buffer after the call. It prints how many there are of both, and how many of these it noticed.
+use corpus::FILLED;
 use corpus::both;
 use corpus::counted;
+use corpus::fill;
+use corpus::filled;
 use corpus::four;
 use corpus::put;
 use corpus::read_front;
 use corpus::two;
 use corpus::wide;
+use corpus::zeros;
 use label::Answer;
 use label::check;
 
 const MOST_SHEETS: usize = 65536;
-
-// What the buffer holds before each call.
-const FILLED: i32 = 7;
 
 // What is planted in an entry: one of the five numbers is wrong.
 const WRONG: u64 = 1;
@@ -87,36 +88,6 @@ fn same(a: Answer, f: Front) -> bool {
         return false;
     }
     a.high as u64 == f.high
-}
-
-fn fill(work: &mut [i32]) {
-    let mut i: usize = 0;
-    while i < work.len() {
-        work[i] = FILLED;
-        i += 1;
-    }
-}
-
-fn filled(work: &[i32]) -> bool {
-    let mut i: usize = 0;
-    while i < work.len() {
-        if work[i] != FILLED {
-            return false;
-        }
-        i += 1;
-    }
-    true
-}
-
-fn zeros(work: &[i32]) -> bool {
-    let mut i: usize = 0;
-    while i < work.len() {
-        if work[i] != 0 {
-            return false;
-        }
-        i += 1;
-    }
-    true
 }
 
 fn not_read() -> Verdict {

@@ -1,7 +1,13 @@
 // Files that a program's arguments name. Why one cannot be opened or read is told on standard error. No contract can say what the
 // system answers: it is named as free.
 ghost use mathlib.Core.Path.{_≡_};
+ghost use Prim.Native.Nat.{_+_, _≤_};
+ghost use lib.ListN.{length};
 ghost use Rattle.rules.specs.Base.{Free};
+ghost use Rattle.rules.specs.Constants.{longestSheet};
+
+// One byte more than a sheet may have, so that a longer one is seen to be too long.
+pub const MOST_OF_SHEET: usize = 16385;
 
 // The file that an argument names, opened; below 0, and the reason on standard error, if it cannot be.
 pub fn opened(i: usize) -> i32
@@ -18,6 +24,14 @@ pub fn opened(i: usize) -> i32
         os::fail(&path[..n]);
     }
     fd
+}
+
+// Reads a sheet as far as there is room, and gives how many bytes it read; which ones is free.
+pub fn read_sheet(fd: i32, sheet: &mut [u8; MOST_OF_SHEET]) -> usize
+    ensures { λ r. ⌜ (length (now (sheet .exit)) ≡ longestSheet + 1) × (r ≤ longestSheet + 1) ⌝ }
+    ensures { λ _. ⌜ Free (now (sheet .exit)) ⌝ }
+{
+    io::read_full(fd, sheet)
 }
 
 // Whether one more read goes without an error; if not, the reason is told under the name that the file is called by. `io::read_full`

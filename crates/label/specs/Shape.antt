@@ -1,12 +1,12 @@
 -- The code's answer as the rules' five numbers.
 use mathlib.Core.Path.{_≡_}
 use mathlib.Core.Bool.{_&&_}
-use mathlib.Core.List.{List, [], _∷_, _++_}
+use mathlib.Core.List.{List, [], _∷_}
 use Prim.Native.Nat.{ℕ}
-use lib.Dec.{leb, ltb}
+use lib.Dec.{leb}
 use lib.IntN.{ℤ}
-use lib.ListN.{length, drop}
-use Rattle.rules.specs.Base.{if_then_else_}
+use lib.ListN.{length}
+use Rattle.rules.specs.Base.{if_then_else_, atFront}
 use Rattle.rules.specs.Refusal.{number, labelBroken}
 use Rattle.rules.specs.Format.{Bytes}
 use Rattle.rules.specs.Search as S
@@ -45,7 +45,7 @@ WindowOf sheet lent = WindowInside sheet (answer sheet (length lent))
 abbrev pub listed : S.Answer → List ℕ
 listed a = a .refusal ∷ a .place ∷ a .steps ∷ a .low ∷ a .high ∷ []
 
--- what the exported call gives: the refusal, and the five at the front of an array that has room for them
-pub record FiveIn (sheet : Bytes) (lent : List ℤ) (before after : List ℕ) (r : ℕ) : Type 0 where
-  pub refusal : r ≡ answer sheet (length lent) .refusal
-  pub numbers : after ≡ (if ltb (length before) 5 then before else listed (answer sheet (length lent)) ++ drop 5 before)
+-- what an exported call gives: the refusal, and the five at the front of an array that has room for them
+pub record FiveIn (a : S.Answer) (before after : List ℕ) (r : ℕ) : Type 0 where
+  pub refusal : r ≡ a .refusal
+  pub numbers : after ≡ atFront (listed a) before

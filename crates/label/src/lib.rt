@@ -9,10 +9,13 @@ use search::search_sheet;
 ghost use mathlib.Core.Path.{_≡_};
 ghost use mathlib.Core.Bool.{_&&_};
 ghost use lib.Dec.{leb};
+ghost use lib.ListN.{length};
+ghost use Rattle.rules.specs.Base.{atFront};
+ghost use Rattle.rules.specs.Search as S;
 ghost use Rattle.rules.specs.Search.{judge};
 ghost use Rattle.rules.specs.Demands.{AllZeros, Unchanged, FollowsTheRules, WindowInside, HoldsOfSheet};
 ghost use Rattle.search.specs.Run.{endOf};
-ghost use Rattle.label.specs.Shape.{answerOf, fiveOf, windowed, byLabel, WindowOf, FiveIn};
+ghost use Rattle.label.specs.Shape.{answerOf, fiveOf, windowed, byLabel, WindowOf, listed, FiveIn};
 
 // Refusal 0 is acceptance; low and high are then the window of finishing ticks.
 pub struct Answer {
@@ -24,7 +27,7 @@ pub struct Answer {
 }
 
 // An answer without a window.
-fn refused(refusal: u32, place: usize, steps: u32) -> Answer
+pub fn refused(refusal: u32, place: usize, steps: u32) -> Answer
     ensures { λ r. ⌜ r ≡ fiveOf refusal place steps 0 0 ⌝ }
 {
     Answer {
@@ -109,24 +112,32 @@ pub fn check(sheet: &[u8], work: &mut [i32]) -> Answer
     }
 }
 
-// The same for C and Rust: the refusal is returned, and the five numbers go to the front of a lent array, in the order refusal,
-// place, steps, low, high. An array of fewer than five numbers is left as it is; the work buffer is all zeros all the same.
+// The five numbers in the order refusal, place, steps, low, high, at the front of a lent array. An array of fewer than five numbers is
+// left as it is.
+pub fn put_answer(a: Answer, numbers: &mut [u64])
+    ensures { λ _. ⌜ now (numbers .exit) ≡ atFront (listed (answerOf a)) (now (numbers .entry)) ⌝ }
+{
+    if numbers.len() < 5 {
+        return;
+    }
+    numbers[0] = a.refusal as u64;
+    numbers[1] = a.place as u64;
+    numbers[2] = a.steps as u64;
+    numbers[3] = a.low as u64;
+    numbers[4] = a.high as u64;
+}
+
+// The check for callers in C and in Rust: the refusal is returned, and the five numbers go to the front of a lent array. An array of
+// fewer than five numbers is left as it is; the work buffer is all zeros all the same.
 #[no_mangle]
 pub extern "C" fn zumbeiry_check(sheet: &[u8], work: &mut [i32], answer: &mut [u64]) -> u32
-    ensures { λ r. ⌜ FiveIn (now (sheet .entry)) (now (work .entry)) (now (answer .entry)) (now (answer .exit)) r ⌝ }
+    ensures { λ r. ⌜ FiveIn (S.answer (now (sheet .entry)) (length (now (work .entry)))) (now (answer .entry)) (now (answer .exit)) r ⌝ }
     ensures { λ r. ⌜ (r ≡ 0 → WindowOf (now (sheet .entry)) (now (work .entry))) ⌝ }
     ensures { λ r. ⌜ (r ≡ 0 → HoldsOfSheet (now (sheet .entry))) ⌝ }
     ensures { λ _. ⌜ AllZeros (now (work .entry)) (now (work .exit)) ⌝ }
     ensures { λ _. ⌜ Unchanged (now (sheet .entry)) (now (sheet .exit)) ⌝ }
 {
     let a = check(sheet, work);
-    if answer.len() < 5 {
-        return a.refusal;
-    }
-    answer[0] = a.refusal as u64;
-    answer[1] = a.place as u64;
-    answer[2] = a.steps as u64;
-    answer[3] = a.low as u64;
-    answer[4] = a.high as u64;
+    put_answer(a, answer);
     a.refusal
 }

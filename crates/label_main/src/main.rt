@@ -2,14 +2,13 @@
 // bytes that were read is proved to be what the rules print of them.
 use label::Answer;
 use label::check;
-use writing::put_number;
+use writing::put_five;
 ghost use mathlib.Core.Path.{_≡_};
 ghost use Prim.Native.Nat.{_+_, _≤_};
 ghost use lib.ListN.{length};
 ghost use Rattle.rules.specs.Constants.{longestSheet};
 ghost use Rattle.rules.specs.Product as P;
 ghost use Rattle.rules.specs.Product.{line};
-ghost use Rattle.writing.specs.Out.{Writes};
 ghost use Rattle.label.specs.Shape.{answerOf};
 ghost use Rattle.label_main.specs.Line.{Holds};
 
@@ -27,22 +26,11 @@ struct Line {
     length: usize,
 }
 
-// The five numbers at the buffer's front: spaces between them, a newline at the end.
-fn put_line(out: &mut [u8], a: Answer) -> usize
-    ensures { λ r. ⌜ Writes (line (answerOf a)) (now (out .entry)) 0 (now (out .exit)) r ⌝ }
-{
-    let second = put_number(out, 0, a.refusal as usize, b' ');
-    let third = put_number(out, second, a.place, b' ');
-    let fourth = put_number(out, third, a.steps as usize, b' ');
-    let fifth = put_number(out, fourth, a.low as usize, b' ');
-    put_number(out, fifth, a.high as usize, b'\n')
-}
-
 fn line_of(a: Answer) -> Line
     ensures { λ r. ⌜ Holds (line (answerOf a)) r ⌝ }
 {
     let mut bytes = [0u8; LONGEST_LINE];
-    let length = put_line(&mut bytes, a);
+    let length = put_five(&mut bytes, 0, a.refusal, a.place, a.steps, a.low, a.high);
     Line { bytes, length }
 }
 

@@ -2,53 +2,38 @@
 -- thread and of a statement by number, and what `statement_at` asks of a place of the index. No code in it: later layers
 -- cite these from the promise of `read_sheet`.
 use mathlib.Core.Path.{_≡_, refl, sym, ap, subst, _∙_}
-use mathlib.Core.Bool.{Bool, true, false, not, _&&_}
+use mathlib.Core.Bool.{Bool, true, false, not}
 use mathlib.Core.List.{List, [], _∷_, _++_}
-use Prim.Native.Nat.{ℕ, zero, suc, _+_, _-_, _*_, _<_, _≤_}
+use Prim.Native.Nat.{ℕ, _+_, _-_, _*_, _<_, _≤_}
 use native.Mathlib.Omega.{arith}
-use lib.Dec.{T, leb, ltb, eqb, leb→le}
+use lib.Dec.{leb, ltb, eqb, leb→le}
 use lib.ListN.{length, getD, length-append}
 use borrow.Author.Tests.{leb-true, eqb-true, ltb-true, ltb-false}
-use Rattle.rules.specs.Base.{if_then_else_, Each, nil, _&_}
-use Rattle.rules.specs.Constants.{longestSheet, greatestLimit, greatestBudget, mostLocks, mostThreads, mostStatements}
+use Rattle.rules.specs.Base.{if_then_else_, Each, nil}
+use Rattle.rules.specs.Constants.{longestSheet, mostLocks, mostThreads, mostStatements}
 use Rattle.rules.specs.Refusal as R
 use Rattle.rules.specs.Refusal.{number, short, outOfTurn, tooLong}
 use Rattle.rules.specs.Program.{isHalt, Thread, Header, Program, noStatement, noThread}
 use Rattle.rules.specs.Format.{Bytes, byte, num32, Got, bad, got, wrong, more, done, hasHead, headerFits, readHeader, readLocks, variableHere, readVariables, readThread, threadHere, readThreads, readSheet}
 use Rattle.rules.proofs.Refusal.{positive}
-use Rattle.rules.proofs.Base.{and-left, and-right, each-map}
+use Rattle.rules.proofs.Base.{each-map, each-get}
 use Rattle.rules.proofs.Format.{If, many-if, variables-ordered}
 use Rattle.reader.specs.declared.Index.{Index}
 use Rattle.reader.specs.Index.{layPlaces, noPlaces, refusedIndex, indexOf}
-use Rattle.reader.specs.Facts.{threadIn, statementIn, namesIn, ranges, Ordered, Targets, StatementFacts, ThreadFacts, HeaderFacts, ProgramFacts, IndexFacts}
-use Rattle.reader.proofs.IfAt.{IfAt, need-at, then-at, sized-at, due-at, any-at, both-at, with-reading, when-got, many-at, many-few}
+use Rattle.reader.specs.Facts.{threadIn, statementIn, namesIn, ranges, Ordered, Targets, StatementFacts, ThreadFacts, ProgramFacts, IndexFacts}
+use Rattle.rules.specs.Fits.{HeaderFits}
+use Rattle.rules.proofs.FieldBytes.{header-fits}
+use Rattle.rules.proofs.IfAt.{IfAt, need-at, then-at, sized-at, due-at, any-at, both-at, with-reading, when-got, many-at, many-few}
 use Rattle.reader.proofs.TableFacts.{lay-at, entry-at}
 use Rattle.reader.proofs.ThreadFacts.{variables-row, variables-few, thread-facts}
 
 -- ---- the header and the locks
 
-header-fits : (h : Header) → T (headerFits (h .limit) (h .budget) (h .labelLow) (h .labelHigh)) → HeaderFacts h
-unfolding headerFits
-header-fits h t =
-    let l = h .limit in let b = h .budget in let a = h .labelLow in let z = h .labelHigh in
-    let limit = and-left (leb 1 l && leb l greatestLimit) ((leb 1 b && leb b greatestBudget) && (leb a z && leb z l)) t in
-    let rest = and-right (leb 1 l && leb l greatestLimit) ((leb 1 b && leb b greatestBudget) && (leb a z && leb z l)) t in
-    let budget = and-left (leb 1 b && leb b greatestBudget) (leb a z && leb z l) rest in
-    let label = and-right (leb 1 b && leb b greatestBudget) (leb a z && leb z l) rest in
-    record {
-      limit-some = leb→le 1 l (and-left (leb 1 l) (leb l greatestLimit) limit);
-      limit-most = leb→le l greatestLimit (and-right (leb 1 l) (leb l greatestLimit) limit);
-      budget-some = leb→le 1 b (and-left (leb 1 b) (leb b greatestBudget) budget);
-      budget-most = leb→le b greatestBudget (and-right (leb 1 b) (leb b greatestBudget) budget);
-      label-ordered = leb→le a z (and-left (leb a z) (leb z l) label);
-      label-most = leb→le z l (and-right (leb a z) (leb z l) label);
-    }
-
-header-at : (s : Bytes) → IfAt (λ (h : Header) (q : ℕ). (q ≡ 19) × HeaderFacts h) (readHeader s)
+header-at : (s : Bytes) → IfAt (λ (h : Header) (q : ℕ). (q ≡ 19) × HeaderFits h) (readHeader s)
 unfolding readHeader
 header-at s =
-    due-at (λ (h : Header) (q : ℕ). (q ≡ 19) × HeaderFacts h) 1 s 0 _
-    (sized-at (λ (h : Header) (q : ℕ). (q ≡ 19) × HeaderFacts h) s 0 16 (headerFits (num32 s 3) (num32 s 7) (num32 s 11) (num32 s 15)) _ (λ _ t. (refl, header-fits _ t)))
+    due-at (λ (h : Header) (q : ℕ). (q ≡ 19) × HeaderFits h) 1 s 0 _
+    (sized-at (λ (h : Header) (q : ℕ). (q ≡ 19) × HeaderFits h) s 0 16 (headerFits (num32 s 3) (num32 s 7) (num32 s 11) (num32 s 15)) _ (λ _ t. (refl, header-fits _ t)))
 
 locks-at : (s : Bytes) (at : ℕ) → IfAt (λ (k q : ℕ). (q ≡ at + 4) × (k ≤ mostLocks)) (readLocks s at)
 unfolding readLocks
@@ -108,7 +93,7 @@ unfolding readSheet
 sheet-facts s =
     let P : Program → ℕ → Type 0 = (λ g q. ProgramFacts s g) in
     need-at P (leb (length s) longestSheet) tooLong 0 _ (λ fits.
-    then-at (λ (h : Header) (q : ℕ). (q ≡ 19) × HeaderFacts h) P (readHeader s) _ (header-at s) (λ h p hp.
+    then-at (λ (h : Header) (q : ℕ). (q ≡ 19) × HeaderFits h) P (readHeader s) _ (header-at s) (λ h p hp.
     then-at (λ (k q : ℕ). (q ≡ p + 4) × (k ≤ mostLocks)) P (readLocks s p) _ (locks-at s p) (λ k q kq.
     let F = readVariables s q in
     then-at _ P F _ (both-at _ _ F (variables-row s q) (both-at _ _ F (variables-few s q) (any-at (Each Ordered) F (variables-ordered s q)))) (λ vs r v.
@@ -131,11 +116,6 @@ sheet-facts s =
 
 pub program-facts : (s : Bytes) (g : Program) (e : ℕ) → readSheet s ≡ got g e → ProgramFacts s g
 program-facts s g e q = when-got (λ g q. ProgramFacts s g) (readSheet s) (sheet-facts s) g e q
-
-each-get : {A : Type 0} (P : A → Type 0) (xs : List A) (k : ℕ) (d : A) → Each P xs → k < length xs → P (getD xs k d)
-each-get P [] k d h r = absurd (omega arith)
-each-get P (x ∷ xs) zero d (p & h) r = p
-each-get P (x ∷ xs) (suc k) d (p & h) r = each-get P xs k d h (omega arith)
 
 module _ {s : Bytes} {g : Program} (f : ProgramFacts s g) (t : ℕ) (r : t < length (g .threads)) where
   pub thread-in : ThreadFacts (length (g .vars)) (g .locks) s (threadIn g t)

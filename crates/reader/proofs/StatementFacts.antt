@@ -16,7 +16,7 @@ use Rattle.rules.proofs.Base.{and-left, and-right}
 use Rattle.rules.proofs.Format.{If, need-if, many-if, Timed, contents-timed}
 use Rattle.reader.specs.Decoded.{bodyEnd, decodeAction, statementAt, statementOf, actionOf}
 use Rattle.reader.specs.Facts.{Named, Expresses, StatementFacts}
-use Rattle.reader.proofs.IfAt.{IfAt, need-at, map-at, exactly-at, any-at, plain, with-reading, when-got}
+use Rattle.rules.proofs.IfAt.{IfAt, need-at, map-at, exactly-at, any-at, plain, with-reading, when-got}
 
 -- ---- the action of a code, whose operands stand from p up to e
 

@@ -16,7 +16,7 @@ use Rattle.rules.specs.Program.{Action, halt, skip, assign, branch, store, load
 use Rattle.rules.specs.Format.{Bytes, byte, Got, bad, got, need, Names, hasHead, sized, readRange, wrong, more, done, variableHere, readVariables, readRegisters, statementHere, readStatement, readStatements, targetFits, lastHalts, targetsFit, close, readThread}
 use Rattle.rules.proofs.Format.{If, close-if, registers-ordered}
 use Rattle.reader.specs.Facts.{rangeAt, ranges, Ordered, Targets, StatementFacts, ThreadFacts}
-use Rattle.reader.proofs.IfAt.{IfAt, then-at, sized-at, due-at, any-at, plain, both-at, weaker-at, with-reading, when-got, many-at, many-few}
+use Rattle.rules.proofs.IfAt.{IfAt, then-at, sized-at, due-at, any-at, plain, both-at, weaker-at, with-reading, when-got, many-at, many-few}
 use Rattle.reader.proofs.statements.Codes.{need-gives, last-gives, targets-give}
 use Rattle.reader.proofs.threads.Laws.{opened}
 use Rattle.reader.proofs.StatementFacts.{statements-facts}

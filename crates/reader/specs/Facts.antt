@@ -6,10 +6,11 @@ use Prim.Native.Nat.{ℕ, zero, suc, _+_, _-_, _*_, _≤_, _<_}
 use lib.ListN.{length, getD}
 use lib.Signed.{_≤ℤ_}
 use Rattle.rules.specs.Base.{Each}
-use Rattle.rules.specs.Constants.{longestSheet, deepest, greatestLimit, greatestBudget, mostLocks, mostVariables, mostRegisters, mostThreads, mostStatements}
+use Rattle.rules.specs.Constants.{longestSheet, deepest, mostLocks, mostVariables, mostRegisters, mostThreads, mostStatements}
 use Rattle.rules.specs.Interval.{Interval, interval}
-use Rattle.rules.specs.Program.{Action, halt, skip, assign, branch, store, load, unlock, lock, isHalt, Statement, Thread, Header, Program, noStatement, noThread}
+use Rattle.rules.specs.Program.{Action, halt, skip, assign, branch, store, load, unlock, lock, isHalt, Statement, Thread, Program, noStatement, noThread}
 use Rattle.rules.specs.Format.{Bytes, int32, got, Names, readArith, readCondition, readStatement}
+use Rattle.rules.specs.Fits.{HeaderFits}
 use Rattle.reader.specs.declared.Index.{Index}
 use Rattle.reader.specs.Index.{noEntry, entryOf}
 use Rattle.reader.specs.Decoded.{bodyEnd, statementAt, statementOf}
@@ -101,17 +102,9 @@ pub record ThreadFacts (vars locks : ℕ) (s : Bytes) (t : Thread) : Type 0 wher
 
 -- ---- the sheet and its index
 
-pub record HeaderFacts (h : Header) : Type 0 where
-  pub limit-some : 1 ≤ h .limit
-  pub limit-most : h .limit ≤ greatestLimit
-  pub budget-some : 1 ≤ h .budget
-  pub budget-most : h .budget ≤ greatestBudget
-  pub label-ordered : h .labelLow ≤ h .labelHigh
-  pub label-most : h .labelHigh ≤ h .limit
-
 pub record ProgramFacts (s : Bytes) (g : Program) : Type 0 where
   pub fits : length s ≤ longestSheet
-  pub header : HeaderFacts (g .header)
+  pub header : HeaderFits (g .header)
   pub locks-few : g .locks ≤ mostLocks
   pub vars : g .vars ≡ ranges s 23 (length (g .vars))
   pub vars-few : length (g .vars) ≤ mostVariables

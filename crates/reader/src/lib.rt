@@ -21,6 +21,7 @@ use crate::threads::read_threads;
 use refusal::Refusal;
 use refusal::number_of;
 pub use statements::MOST_STATEMENTS;
+pub use statements::times_fit;
 pub use threads::MOST_THREADS;
 pub use ticks::Time;
 ghost use mathlib.Core.Path.{_≡_};

@@ -39,7 +39,8 @@ fn length_fits(c: usize, n: usize) -> bool
     n == 6
 }
 
-fn times_fit(c: usize, least: Time, greatest: Time) -> bool
+// Whether a statement of a code may have these times.
+pub fn times_fit(c: usize, least: Time, greatest: Time) -> bool
     ensures { λ r. ⌜ r ≡ timesFit c (least .0) (greatest .0) ⌝ }
 {
     if c == 0 {

@@ -13,9 +13,10 @@ use Rattle.rules.specs.Format.{Bytes, Got, bad, got, need, readSheet}
 use Rattle.rules.specs.Run.{RunState, Event, noResult, next, play, Happens, IsRun, finished, greatestClock, Starts}
 use Rattle.rules.specs.Demands.{HoldsOfRun}
 use Rattle.rules.proofs.Refusal.{positive}
-use Rattle.rules.proofs.Widths.{ProgramFits, program-fits}
+use Rattle.rules.specs.Fits.{ProgramFits}
+use Rattle.rules.proofs.Encoding.{reads-written}
 use Rattle.rules.proofs.Latest.{start-latest}
-use Rattle.reader.proofs.IfAt.{IfAt}
+use Rattle.rules.proofs.IfAt.{IfAt}
 use Rattle.record.specs.Follow.{longestRecord, Replay, followRecord, theRecord, Answer, leaves, refused, answerOf, followWith, follow}
 use Rattle.record.specs.Recorder.{eventField, recordOf, lastTick}
 use Rattle.record.specs.Claims.{RunOf, Refuses, IsRunOf, EndsInLabel}
@@ -32,7 +33,7 @@ module _ (sheet : Bytes) (g : Program) (s : RunState) (h : RunOf sheet g s) wher
   by-record r x e = ap (followWith r) (h .reads) ∙ ap (answerOf g) e
 
   fits : ProgramFits g
-  fits = program-fits sheet (h .are-bytes) g (h .end) (h .reads)
+  fits = reads-written sheet (h .are-bytes) g (h .end) (h .reads) .0 .fits
 
   module _ (es : List Event) (x : RunState) (p : play g s es ≡ next x) where
     pub run-replayed : length (recordOf s es) ≤ longestRecord → (q : ℕ) × (followRecord g (recordOf s es) ≡ got (record { state = x; tick = lastTick 0 es }) q)

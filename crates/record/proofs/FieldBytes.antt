@@ -2,37 +2,18 @@
 -- field stands, so do the bytes that the recorder writes for what is read from it.
 use mathlib.Core.Path.{_≡_, refl, ap, _∙_}
 use mathlib.Core.List.{_∷_, _++_}
-use Prim.Native.Nat.{ℕ, _+_, _-_, _*_, _/_, _%_, _<_}
+use Prim.Native.Nat.{ℕ, _+_, _-_, _*_, _/_, _%_}
 use native.Mathlib.Omega.{arith}
-use lib.Dec.{ltb, leb→le, ltb→lt, nltb→le}
-use lib.IntN.{ℤ, pos, negsuc}
+use lib.IntN.{ℤ}
 use lib.ListN.{drop}
 use Rattle.rules.specs.Format.{Bytes, AreBytes, byte, num16, num32, int32, twosComplement}
-use Rattle.rules.specs.Sheets.{two, four}
+use Rattle.rules.specs.Encoding.{two, four, unsigned}
 use Rattle.rules.specs.Run.{Event}
-use Rattle.rules.proofs.Base.{if-ind}
-use Rattle.rules.proofs.Widths.{Fits32}
-use Rattle.reader.proofs.FieldAt.{Field, byte-from, field-there, behind-field, one-at, below, two-at, head-at}
+use Rattle.rules.specs.Fits.{Value}
+use Rattle.rules.proofs.Values.{unsigned-read, read-unsigned}
+use Rattle.rules.proofs.FieldAt.{Field, byte-from, field-there, behind-field, one-at, below, two-at, head-at}
 use Rattle.record.specs.Follow.{clockAt}
-use Rattle.record.specs.Recorder.{unsigned, valueField, eventField}
-
--- ---- 32 bits, signed and unsigned
-
-unsigned-read : (z : ℤ) → Fits32 z → twosComplement (unsigned z) ≡ z
-unfolding twosComplement
-unsigned-read (pos n) f =
-    let k = leb→le n 2147483647 (f .greatest .le) in
-    if-ind (ltb n 2147483648) (pos n) (negsuc (4294967295 - n)) (λ z. z ≡ pos n) (λ _. refl) (λ t. let l = nltb→le n 2147483648 t in absurd (omega arith))
-unsigned-read (negsuc n) f =
-    let k = leb→le n 2147483647 (f .lowest .le) in
-    let m = 4294967295 - n in
-    if-ind (ltb m 2147483648) (pos m) (negsuc (4294967295 - m)) (λ z. z ≡ negsuc n)
-    (λ t. let l = ltb→lt m 2147483648 t in absurd (omega arith))
-    (λ _. let e : 4294967295 - m ≡ n = omega arith in ap negsuc e)
-
-read-unsigned : (n : ℕ) → n < 4294967296 → unsigned (twosComplement n) ≡ n
-unfolding twosComplement
-read-unsigned n h = if-ind (ltb n 2147483648) _ _ (λ z. unsigned z ≡ n) (λ _. refl) (λ _. omega arith)
+use Rattle.record.specs.Recorder.{valueField, eventField}
 
 -- ---- what the recorder writes is a field
 
@@ -49,7 +30,7 @@ pub record EventThere (r : Bytes) (at : ℕ) (v : Event) (rest : Bytes) : Type 0
   pub behind : drop (at + 3 + 3) r ≡ rest
 
 module _ (r : Bytes) (at : ℕ) (rest : Bytes) where
-  pub value-there : (z : ℤ) → Fits32 z → drop at r ≡ valueField z ++ rest → ValueThere r at z rest
+  pub value-there : (z : ℤ) → Value z → drop at r ≡ valueField z ++ rest → ValueThere r at z rest
   unfolding int32 num32
   value-there z f e =
       let n = unsigned z in

@@ -11,7 +11,8 @@ use Rattle.rules.specs.Program.{Program}
 use Rattle.rules.specs.Format.{Bytes}
 use Rattle.rules.specs.Run.{RunState, isEvent, Event, Outcome, notEvent, noResult, next, step, continue, play, Happens, IsRun}
 use Rattle.rules.proofs.Event.{event-ends, StepSays, step-says}
-use Rattle.rules.proofs.Widths.{ThreadFits, program-fits}
+use Rattle.rules.specs.Fits.{ThreadFits}
+use Rattle.rules.proofs.Encoding.{reads-written}
 use Rattle.rules.proofs.Latest.{Latest, start-latest, event-after, event-soon, event-latest}
 use Rattle.record.specs.Recorder.{lastTick}
 use Rattle.record.specs.Claims.{Gaps, RunOf}
@@ -60,7 +61,7 @@ last-lacks g s (w ∷ es) v q e =
 
 -- ---- an event of a run whose last event was at tick c
 
-module _ (g : Program) (brief : Each ThreadFits (g .threads)) (s : RunState) (c : ℕ) (before : Latest g s c) (v : Event) where
+module _ (g : Program) {vars locks : ℕ} (brief : Each (ThreadFits vars locks) (g .threads)) (s : RunState) (c : ℕ) (before : Latest g s c) (v : Event) where
   pub event-gap : T (isEvent g s (v .thread) (v .tick)) → (c ≤ v .tick) × (v .tick ≤ c + 65535)
   event-gap i =
       let h = event-ends g s (v .thread) (v .tick) i in
@@ -91,7 +92,7 @@ play-latest g (v ∷ es) s x c l q =
 
 -- ---- "Two successive events are never more than 65,535 ticks apart, by the rule for runs"
 
-module _ (g : Program) (brief : Each ThreadFits (g .threads)) where
+module _ (g : Program) {vars locks : ℕ} (brief : Each (ThreadFits vars locks) (g .threads)) where
   gaps-from : (es : List Event) (s : RunState) (c : ℕ) → Latest g s c → IsRun g s es → Gaps c es
   unfolding play
   gaps-from [] s c l i = tt
@@ -109,4 +110,4 @@ module _ (g : Program) (brief : Each ThreadFits (g .threads)) where
       by (next x) q k i more = let (a, b) = event-gap g brief s c l v (k .0) in (a, b, more x (step-latest g s c l v x q) (unfold continue in i))
 
 pub run-gaps : (sheet : Bytes) (g : Program) (s : RunState) → RunOf sheet g s → (es : List Event) → IsRun g s es → Gaps 0 es
-run-gaps sheet g s h es i = gaps-from g (program-fits sheet (h .are-bytes) g (h .end) (h .reads) .threads-fit) es s 0 (start-latest g s (h .starts)) i
+run-gaps sheet g s h es i = gaps-from g (reads-written sheet (h .are-bytes) g (h .end) (h .reads) .0 .fits .threads) es s 0 (start-latest g s (h .starts)) i

@@ -12,8 +12,8 @@ use Rattle.rules.specs.Program.{Program}
 use Rattle.rules.specs.Format.{Bytes, Got, bad, got, andThen, byte, num16, due, sized}
 use Rattle.rules.specs.Run.{Outcome, notEvent, noResult, next, step}
 use Rattle.rules.proofs.Base.{if-ind}
-use Rattle.reader.proofs.IfAt.{IfAt, then-at}
-use Rattle.reader.proofs.FieldAt.{Field, field-at}
+use Rattle.rules.proofs.IfAt.{IfAt, then-at}
+use Rattle.rules.proofs.FieldAt.{Field, field-at}
 use Rattle.record.specs.Follow.{clockAt, gap, tickAfter, Replay, replayed, replay, atField, followEvent, followEvents, followFrom}
 
 -- ---- the gap

@@ -4,17 +4,17 @@ use mathlib.Core.Path.{_≡_, refl, sym, ap, _∙_, subst}
 use mathlib.Core.List.{List, [], _∷_, _++_, append-assoc, append-nil}
 use Prim.Native.Nat.{ℕ, _+_, _≤_, _<_}
 use native.Mathlib.Omega.{arith}
-use lib.Dec.{leb}
+use lib.Dec.{leb, le→leb}
 use lib.ListN.{length, drop, length-drop, length-append}
-use borrow.Author.Tests.{le-leb, le-ltb}
+use borrow.Author.Tests.{le-ltb}
 use Rattle.rules.specs.Refusal.{Refusal, tooLong, fault}
 use Rattle.rules.specs.Program.{Program}
 use Rattle.rules.specs.Format.{Bytes, Got, bad, got, andThen}
 use Rattle.rules.specs.Run.{RunState, Event, noResult, next, play, Starts}
 use Rattle.rules.proofs.Event.{event-ends, live-there}
-use Rattle.rules.proofs.Widths.{ProgramFits}
+use Rattle.rules.specs.Fits.{ProgramFits}
 use Rattle.rules.proofs.Latest.{start-latest}
-use Rattle.reader.proofs.FieldAt.{passed}
+use Rattle.rules.proofs.IfAt.{need-yes}
 use Rattle.record.specs.Follow.{longestRecord, Replay, replayed, atField, followFrom, followRecord}
 use Rattle.record.specs.Recorder.{eventField, recordValues, recordRegisters, recordEvents, recordOf, lastTick}
 use Rattle.record.specs.Claims.{Refuses, no-thread, no-event, no-result}
@@ -57,9 +57,9 @@ module _ (g : Program) (f : ProgramFits g) (s : RunState) (starts : Starts g s) 
   behind-run rest fits =
       let r = recordOf s es ++ rest in
       let h = start-read r g f s starts (recordEvents es ++ rest) (record-with s es rest) in
-      let (at, on, left) = events-read r g (f .threads-fit) es (h .place) s x 0 (start-latest g s starts) plays rest (h .left) in (
+      let (at, on, left) = events-read r g (f .threads) es (h .place) s x 0 (start-latest g s starts) plays rest (h .left) in (
         at,
-        passed (leb (length r) longestRecord) tooLong 0 _ (le-leb (length r) longestRecord fits)
+        need-yes (leb (length r) longestRecord) tooLong 0 _ (le→leb (length r) longestRecord fits)
             ∙ ap (λ (z : Got Replay). andThen z (λ x q. followFrom g r q x)) (h .reads) ∙ on,
         left,
       )
@@ -96,7 +96,7 @@ pub fault-followed : (g : Program) → ProgramFits g → (s : RunState) → Star
 fault-followed g f s starts es v q plays fits =
     let (x, p, lacks) = last-lacks g s es v q plays in
     let l = play-latest g es s x 0 (start-latest g s starts) p in
-    let (after, soon) = event-gap g (f .threads-fit) x (lastTick 0 es) l v (happened g x v (noResult q) lacks tt) in
+    let (after, soon) = event-gap g (f .threads) x (lastTick 0 es) l v (happened g x v (noResult q) lacks tt) in
     let same = record-snoc s es v in
     subst (λ (r : Bytes). followRecord g r ≡ bad q (length (recordOf s es))) same
     (event-refused g f s starts es x p v after soon q (no-result q lacks) [] (omega (arith, ap length same)))

@@ -15,8 +15,8 @@ use Rattle.rules.specs.Format.{Bytes, AreBytes, got, andThen, byte, num16, int3
 use Rattle.rules.specs.Run.{RunThread, RunState, Event, next, step, play, AllIn, no-values, one-value, ThreadsStart, no-more, one-more, Starts}
 use Rattle.rules.proofs.Base.{if-ind, and-left, and-right}
 use Rattle.interval.specs.Bounds.{holds}
-use Rattle.reader.proofs.IfAt.{IfAt, need-at, then-at, weaker-at}
-use Rattle.reader.proofs.FieldAt.{field-at, below}
+use Rattle.rules.proofs.IfAt.{IfAt, need-at, then-at, weaker-at}
+use Rattle.rules.proofs.FieldAt.{field-at, below}
 use Rattle.record.specs.Follow.{longestRecord, clockAt, gap, tickAfter, Replay, startValue, startValues, atStart, startThreads, startReplay, followEvent, followEvents, followFrom, followRecord}
 use Rattle.record.specs.Recorder.{valueField, eventField, recordValues, recordRegisters, recordEvents, recordOf, lastTick}
 use Rattle.record.proofs.Loop.{Behind, event-behind}

@@ -1,5 +1,5 @@
 -- What the recorder writes is read back: a run's starting values, and each event with its own full tick.
-use mathlib.Core.Path.{_≡_, refl, sym, ap, _∙_, subst}
+use mathlib.Core.Path.{_≡_, sym, ap, _∙_, subst}
 use mathlib.Core.Bool.{true}
 use mathlib.Core.Option.{none}
 use mathlib.Core.List.{List, [], _∷_, _++_, append-assoc, append-nil}
@@ -17,12 +17,13 @@ use Rattle.rules.specs.Program.{Thread, Program}
 use Rattle.rules.specs.Format.{Bytes, Got, got, andThen, byte, num16, int32}
 use Rattle.rules.specs.Lock.{Owner}
 use Rattle.rules.specs.Run.{RunThread, RunState, isEvent, Event, Outcome, next, step, play, Happens, AllIn, no-values, one-value, ThreadsStart, no-more, one-more, Starts}
-use Rattle.rules.proofs.Base.{and-both, same-test}
+use Rattle.rules.proofs.Base.{and-both}
 use Rattle.rules.proofs.Event.{event-ends, live-there}
-use Rattle.rules.proofs.Widths.{RangeFits, value-fits, ThreadFits, ProgramFits}
+use Rattle.rules.specs.Fits.{RangeFits, ThreadFits, ProgramFits}
+use Rattle.rules.proofs.Values.{value-in}
 use Rattle.rules.proofs.Latest.{Latest}
 use Rattle.interval.specs.Bounds.{holds}
-use Rattle.reader.proofs.FieldAt.{field-reads}
+use Rattle.rules.proofs.FieldAt.{field-reads}
 use Rattle.record.specs.Follow.{clockAt, gap, tickAfter, Replay, startValue, startValues, atStart, startThreads, startReplay, replayed, replay, atField, followEvent, followFrom}
 use Rattle.record.specs.Recorder.{valueField, eventField, recordValues, recordRegisters, recordEvents, lastTick}
 use Rattle.record.proofs.Gaps.{continued, event-gap, happened, step-latest}
@@ -61,12 +62,12 @@ module _ (r : Bytes) where
   unfolding startValue holds
   value-read i at z rest f h e =
       let w = int32 r (at + 3) in
-      let there = value-there r at rest z (value-fits f h) e in
+      let there = value-there r at rest z (value-in z i f h) e in
       let same : w ≡ z = there .value-is in
       let ok : T (holds i w) = subst (λ (y : ℤ). T (holds i y)) (sym same) (and-both (leZ (i .low) z) (leZ z (i .high)) (h .low .le) (h .high .le)) in
       record {
         place = at + 3 + 4;
-        reads = field-reads 32 4 r at (holds i w) w (there .field) (same-test (holds i w) true (λ _. tt) (λ _. ok)) ∙ ap (λ (y : ℤ). got y (at + 3 + 4)) same;
+        reads = field-reads 32 4 r at (holds i w) w (there .field) ok ∙ ap (λ (y : ℤ). got y (at + 3 + 4)) same;
         left = there .behind;
       }
 
@@ -79,13 +80,13 @@ module _ (r : Bytes) where
       subst (λ (all : List ℤ). Reads r (startValues is (before ++ z ∷ []) r q) all rest) (append-assoc before (z ∷ []) zs)
       (values-read fs hs (before ++ z ∷ []) q rest l))
 
-  threads-read : {ts : List Thread} {xs : List RunThread} → Each ThreadFits ts → ThreadsStart ts xs → (before : List RunThread) (at : ℕ) (rest : Bytes)
+  threads-read : {vars locks : ℕ} {ts : List Thread} {xs : List RunThread} → Each (ThreadFits vars locks) ts → ThreadsStart ts xs → (before : List RunThread) (at : ℕ) (rest : Bytes)
       → drop at r ≡ recordRegisters xs ++ rest → Reads r (startThreads ts before r at) (before ++ xs) rest
   unfolding startThreads recordRegisters
   threads-read nil no-more before at rest e = record { place = at; reads = ap (λ (l : List RunThread). got l at) (sym (append-nil before)); left = e }
   threads-read (f & fs) (one-more {t} {zs} {ts} {xs} h hs) before at rest e =
       then-reads (λ ys q. startThreads ts (before ++ atStart ys ∷ []) r q)
-      (values-read (f .regs-fit) h [] at (recordRegisters xs ++ rest) (e ∙ append-assoc (recordValues zs) (recordRegisters xs) rest)) (λ q l.
+      (values-read (f .regs) h [] at (recordRegisters xs ++ rest) (e ∙ append-assoc (recordValues zs) (recordRegisters xs) rest)) (λ q l.
       subst (λ (all : List RunThread). Reads r (startThreads ts (before ++ atStart zs ∷ []) r q) all rest) (append-assoc before (atStart zs ∷ []) xs)
       (threads-read fs hs (before ++ atStart zs ∷ []) q rest l))
 
@@ -94,8 +95,8 @@ module _ (r : Bytes) where
   unfolding startReplay
   start-read g f s h rest e =
       then-reads (λ vs p. andThen (startThreads (g .threads) [] r p) (λ xs q. got (begun xs vs) q))
-      (values-read (f .vars-fit) (h .vars-start) [] 0 (recordRegisters (s .threads) ++ rest) e) (λ p l.
-      then-reads (λ xs q. got (begun xs (s .vars)) q) (threads-read (f .threads-fit) (h .threads-start) [] p rest l) (λ q m.
+      (values-read (f .vars) (h .vars-start) [] 0 (recordRegisters (s .threads) ++ rest) e) (λ p l.
+      then-reads (λ xs q. got (begun xs (s .vars)) q) (threads-read (f .threads) (h .threads-start) [] p rest l) (λ q m.
       record {
         place = q;
         reads = ap (λ (os : List Owner). got (record { state = record { threads = s .threads; vars = s .vars; owners = os }; tick = 0 }) q)
@@ -117,12 +118,12 @@ module _ (r : Bytes) where
       let x : Replay = record { state = s; tick = c } in
       let there = event-there r at rest v e in
       ap (λ (z : Got ℕ). andThen z (λ _ q. atField at q (replay g x (byte r (at + 3)) (num16 r (at + 4)))))
-      (field-reads 33 3 r at true 3 (there .field) refl)
+      (field-reads 33 3 r at true 3 (there .field) tt)
       ∙ (λ j. atField at (at + 3 + 3) (replay g x (there .thread-is j) (there .clock-is j)))
       ∙ ap (λ (w : ℕ). atField at (at + 3 + 3) (if ltb (v .thread) (length (g .threads)) then replayed w (step g s (v .thread) w) else fault noSuchName))
       (tick-recovered c (v .tick) after soon)
 
-  module _ (g : Program) (brief : Each ThreadFits (g .threads)) where
+  module _ (g : Program) {vars locks : ℕ} (brief : Each (ThreadFits vars locks) (g .threads)) where
     -- an event of the run
     event-read : (at : ℕ) (s : RunState) (c : ℕ) → Latest g s c → (v : Event) → T (isEvent g s (v .thread) (v .tick)) → (rest : Bytes)
         → drop at r ≡ eventField v ++ rest

@@ -1,20 +1,15 @@
 -- What the recorder writes of a run (02, ticket 9): its starting values and its events; and the tick of the last of them.
 use mathlib.Core.List.{List, [], _∷_, _++_}
-use Prim.Native.Nat.{ℕ, _-_}
-use lib.IntN.{ℤ, pos, negsuc}
+use Prim.Native.Nat.{ℕ}
+use lib.IntN.{ℤ}
 use Rattle.rules.specs.Format.{Bytes}
-use Rattle.rules.specs.Sheets.{two, four, field}
+use Rattle.rules.specs.Encoding.{two, field, encodeValue}
 use Rattle.rules.specs.Run.{RunThread, RunState, Event}
 use Rattle.record.specs.Follow.{clockAt}
 
--- two's complement in 32 bits, as an unsigned number
-abbrev pub unsigned : ℤ → ℕ
-unsigned (pos n) = n
-unsigned (negsuc n) = 4294967295 - n
-
 -- "Starting values are tag 32, length 4"
 abbrev pub valueField : ℤ → Bytes
-valueField z = field 32 (four (unsigned z))
+valueField z = field 32 (encodeValue z)
 
 -- "one field for each event (tag 33, length 3: thread, clock)"
 abbrev pub eventField : Event → Bytes

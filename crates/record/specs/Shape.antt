@@ -1,11 +1,9 @@
 -- The code's answer as the rule's.
 use mathlib.Core.Path.{_≡_}
 use mathlib.Core.Bool.{false}
-use mathlib.Core.List.{List, _++_}
+use mathlib.Core.List.{List}
 use Prim.Native.Nat.{ℕ}
-use lib.Dec.{ltb}
-use lib.ListN.{length, drop}
-use Rattle.rules.specs.Base.{if_then_else_}
+use Rattle.rules.specs.Base.{atFront}
 use Rattle.record.specs.Follow.{Answer, theSheet, theRecord, listed}
 use Rattle.record.specs.Follow as F
 use Rattle.record.specs.declared.whole.File.{File}
@@ -26,4 +24,4 @@ refusedSheet n p = record { refusal = n; file = theSheet; place = p; finished = 
 -- what the exported call gives: the refusal, and the five numbers at the front of an array that has room for them
 pub record FiveIn (a : Answer) (before after : List ℕ) (r : ℕ) : Type 0 where
   pub refusal : r ≡ a .refusal
-  pub numbers : after ≡ (if ltb (length before) 5 then before else listed a ++ drop 5 before)
+  pub numbers : after ≡ atFront (listed a) before

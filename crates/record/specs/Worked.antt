@@ -8,7 +8,8 @@ use lib.ListN.{take, replicate}
 use Rattle.rules.specs.Base.{Each}
 use Rattle.rules.specs.Refusal.{Refusal, short, outOfTurn, badLength, offRange, noSuchName, tooLong, noReading, offScale, notRun}
 use Rattle.rules.specs.Format.{Bytes}
-use Rattle.rules.specs.Sheets.{two, field, header, locks, variable, thread, register, halt, skip, assign, branch, load, constant, reg, plus, divide, less, store}
+use Rattle.rules.specs.Encoding.{two, field}
+use Rattle.rules.specs.Sheets.{header, locks, variable, thread, register, halt, skip, assign, branch, load, constant, reg, plus, divide, less, store}
 use Rattle.rules.specs.Worked.{A, B, B-with, C, D, E, F}
 use Rattle.rules.specs.Edges.{with-register, lowest}
 use Rattle.rules.specs.Runs.{divides, relocks}

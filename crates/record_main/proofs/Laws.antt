@@ -1,21 +1,19 @@
 -- The printed line: written number by number, never longer than 47 bytes, and told by the first 16,385 bytes of a sheet and the first
 -- 65,537 of a record.
-use mathlib.Core.Path.{_≡_, refl, sym, ap, _∙_}
+use mathlib.Core.Path.{_≡_, refl, ap, _∙_}
 use mathlib.Core.Bool.{Bool, true, false}
 use mathlib.Core.List.{[], _∷_, _++_}
-use Prim.Native.Nat.{ℕ, suc, _+_, _^_, _≤_, _<_}
-use native.Mathlib.Decide.{decLe}
+use Prim.Native.Nat.{ℕ, _+_, _^_, _≤_, _<_}
 use native.Mathlib.Omega.{arith}
 use borrow.Author.Tests.{lt-leb}
-use lib.ListN.{length, take, length-append}
-use lib.Seq.{take-all, length-take-le}
+use lib.ListN.{length, take}
 use Rattle.rules.specs.Refusal.{tooLong}
-use Rattle.rules.specs.Constants.{longestSheet}
 use Rattle.rules.specs.Program.{Program}
 use Rattle.rules.specs.Format.{Bytes, Got, bad, got, need, readSheet}
 use Rattle.rules.specs.Product.{decimal}
+use Rattle.rules.proofs.Longest.{told-by-front, sheet-told}
 use Rattle.writing.specs.Out.{outOf, write, Writes}
-use Rattle.writing.proofs.Written.{text-then, fits-front}
+use Rattle.writing.proofs.Written.{text-then, fits-inside}
 use Rattle.writing.proofs.Decimal.{number-length}
 use Rattle.record.specs.Follow.{fileNumber, bit, longestRecord, File, theSheet, theRecord, Answer, followRecord, answerOf, followWith, follow}
 use Rattle.record_main.specs.Line.{line, longestLine, printed, EnoughRead}
@@ -65,11 +63,7 @@ module _ (a : Answer) (r : a .refusal < 2 ^ 32) (p : a .place < 2 ^ 64) (t : a .
 
   -- so an array of that length has room for it
   pub line-fits : (l m : Bytes) (n : ℕ) → longestLine ≤ length l → Writes (line a) l 0 m n → n ≤ length m
-  line-fits l m n h e =
-      let k = line-length in
-      let d = fits-front (line a) l m n e (omega arith) in
-      let g = ap length (d .0) ∙ length-append (line a) _ in
-      omega (arith, d .1)
+  line-fits l m n h e = let k = line-length in fits-inside (line a) l m n e (omega arith)
 
 -- ---- what is printed of a sheet and a record
 
@@ -79,17 +73,6 @@ unfolding printed
 printed-written sheet recorded a e before after n w = w ∙ ap (λ (x : Answer). write (line x) (outOf before 0)) e
 
 -- ---- enough is read
-
--- what is the same for all that are longer than n is told by the first n + 1 bytes
-told-by-front : {A : Type 0} (f : Bytes → A) (n : ℕ) (x : A) → ((s : Bytes) → n < length s → f s ≡ x) → (s : Bytes) → f (take (n + 1) s) ≡ f s
-told-by-front f n x same s = elim (decLe (length s) (n + 1)) [
-  | yes h ↦ ap f (take-all (n + 1) s h)
-  | no h ↦ let cut = length-take-le (n + 1) s (omega arith) in same (take (n + 1) s) (omega (arith, cut)) ∙ sym (same s (omega arith))
-]
-
-sheet-too-long : (s : Bytes) → longestSheet < length s → readSheet s ≡ bad tooLong 0
-unfolding readSheet need
-sheet-too-long s h = rw (lt-leb (length s) longestSheet h)
 
 record-too-long : (g : Program) (r : Bytes) → longestRecord < length r → followRecord g r ≡ bad tooLong 0
 unfolding followRecord need
@@ -103,4 +86,4 @@ cut-record (got g e) r = ap (answerOf g) (told-by-front (followRecord g) longest
 pub enough-read : EnoughRead
 unfolding printed follow
 enough-read sheet recorded =
-    ap line (ap (followWith _) (told-by-front readSheet longestSheet (bad tooLong 0) sheet-too-long sheet) ∙ cut-record (readSheet sheet) recorded)
+    ap line (ap (followWith _) (sheet-told sheet) ∙ cut-record (readSheet sheet) recorded)

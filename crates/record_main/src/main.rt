@@ -2,7 +2,9 @@
 // the record is a run of the sheet that leaves a state; the file at fault (0 the sheet, 1 the record) and the place in it; whether
 // the run is finished (1) or not (0), and its last tick. What is printed of the bytes that were read is proved to be what the rule
 // gives.
+use files::MOST_OF_SHEET;
 use files::opened;
+use files::read_sheet;
 use files::reads_on;
 use libc::STDERR_FILENO;
 use libc::STDOUT_FILENO;
@@ -14,15 +16,12 @@ use writing::put_number;
 ghost use mathlib.Core.Path.{_≡_};
 ghost use Prim.Native.Nat.{_+_, _≤_};
 ghost use lib.ListN.{length};
-ghost use Rattle.rules.specs.Constants.{longestSheet};
 ghost use Rattle.writing.specs.Out.{Writes};
 ghost use Rattle.record.specs.Follow.{longestRecord};
 ghost use Rattle.record.specs.Shape.{followedOf};
 ghost use Rattle.record_main.specs.Line.{longestLine, line, printed};
 
-// One byte more than each may have, so that a longer file is seen to be too long, and the rule gives it its number.
-const MOST_OF_SHEET: usize = 16385;
-
+// One byte more than a record may have, so that a longer one is seen to be too long, and the rule gives it its number.
 const MOST_OF_RECORD: usize = 65537;
 
 // The longest line: ten digits for the refusal and for the tick, twenty for the place, one for the other two, and one byte behind each.
@@ -62,14 +61,7 @@ fn put_answer(sheet: &[u8], recorded: &[u8]) {
 
 // ---- the files
 
-// Reads a sheet as far as there is room, and gives how many bytes it read.
-fn read_sheet(fd: i32, sheet: &mut [u8; MOST_OF_SHEET]) -> usize
-    ensures { λ r. ⌜ (length (now (sheet .exit)) ≡ longestSheet + 1) × (r ≤ longestSheet + 1) ⌝ }
-{
-    io::read_full(fd, sheet)
-}
-
-// The same of a record.
+// Reads a record as far as there is room, and gives how many bytes it read.
 fn read_record(fd: i32, recorded: &mut [u8; MOST_OF_RECORD]) -> usize
     ensures { λ r. ⌜ (length (now (recorded .exit)) ≡ longestRecord + 1) × (r ≤ longestRecord + 1) ⌝ }
 {

@@ -1,7 +1,7 @@
 -- The code's refusals and those of the rules: one for each of the other.
 use Rattle.rules.specs.Refusal as R
 use Rattle.refusal.specs.declared.Refusal.{Refusal}
-use Rattle.refusal.specs.declared.Refusal.the-variants.{Short, OutOfTurn, BadLength, OffRange, NoSuchName, BadExpression, NoHalt, TooMany, TooLong, NoReading, Stuck, PastLimit, OutOfSteps, OutOfRoom, LabelBroken, OffScale, NotRun}
+use Rattle.refusal.specs.declared.Refusal.the-variants.{Short, OutOfTurn, BadLength, OffRange, NoSuchName, BadExpression, NoHalt, TooMany, TooLong, NoReading, Stuck, PastLimit, OutOfSteps, OutOfRoom, LabelBroken, OffScale, OutputFull, NotRun}
 
 -- from the rules to the code: what a function that refuses must give
 abbrev pub refusalOf : R.Refusal → Refusal
@@ -21,6 +21,7 @@ refusalOf R.outOfSteps = OutOfSteps
 refusalOf R.outOfRoom = OutOfRoom
 refusalOf R.labelBroken = LabelBroken
 refusalOf R.offScale = OffScale
+refusalOf R.outputFull = OutputFull
 refusalOf R.notRun = NotRun
 
 -- from the code to the rules: what a refusal means
@@ -41,4 +42,5 @@ ruleOf OutOfSteps = R.outOfSteps
 ruleOf OutOfRoom = R.outOfRoom
 ruleOf LabelBroken = R.labelBroken
 ruleOf OffScale = R.offScale
+ruleOf OutputFull = R.outputFull
 ruleOf NotRun = R.notRun

@@ -20,6 +20,7 @@ pub enum Refusal {
     OutOfRoom,
     LabelBroken,
     OffScale,
+    OutputFull,
     NotRun,
 }
 
@@ -44,6 +45,7 @@ pub fn number_of(r: Refusal) -> u32
         Refusal::OutOfRoom => 14,
         Refusal::LabelBroken => 15,
         Refusal::OffScale => 16,
+        Refusal::OutputFull => 19,
         Refusal::NotRun => 21,
     }
 }

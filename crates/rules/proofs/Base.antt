@@ -7,7 +7,7 @@ use native.Mathlib.Decide.{ℕ-discrete}
 use native.Mathlib.Omega.{arith}
 use mathlib.Core.Path.{_≡_, refl, subst, sym}
 use lib.Dec.{T}
-use lib.ListN.{getD, set}
+use lib.ListN.{length, getD, set}
 use Rattle.rules.specs.Base.{if_then_else_, allBelow, Each, nil, _&_}
 
 -- what holds of both choices, each under its test, holds of the choice
@@ -113,6 +113,12 @@ module _ {A : Type 0} {P : A → Type 0} where
   pub some-right : (xs : List A) {ys : List A} → Some P ys → Some P (xs ++ ys)
   some-right [] s = s
   some-right (x ∷ xs) s = there (some-right xs s)
+
+-- one of those that are there
+pub each-get : {A : Type 0} (P : A → Type 0) (xs : List A) (k : ℕ) (d : A) → Each P xs → k < length xs → P (getD xs k d)
+each-get P [] k d h r = absurd (omega arith)
+each-get P (x ∷ xs) zero d (p & h) r = p
+each-get P (x ∷ xs) (suc k) d (p & h) r = each-get P xs k d h (omega arith)
 
 pub each-map : {A : Type 0} {P Q : A → Type 0} {xs : List A} → ((x : A) → P x → Q x) → Each P xs → Each Q xs
 each-map f nil = nil

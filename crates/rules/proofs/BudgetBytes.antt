@@ -9,7 +9,7 @@ use lib.Seq.{getD-take, getD-drop, getD-append-add, length-take-le}
 use Rattle.rules.specs.Refusal.{short, badLength, offRange, tooLong}
 use Rattle.rules.specs.Program.{Header, Program}
 use Rattle.rules.specs.Format.{Bytes, got, byte, num16, num32, hasBody, sized, readHeader, readLocks, readVariables, readThreads, readSheet}
-use Rattle.rules.specs.Sheets.{four}
+use Rattle.rules.specs.Encoding.{four}
 use Rattle.rules.specs.Budget.{budgetIn, SameButBudget, withBudget}
 use Rattle.rules.proofs.Format.{If, need-if, then-if, then-any, due-if}
 

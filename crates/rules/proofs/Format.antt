@@ -116,7 +116,7 @@ code-zero-halts : (c : ℕ) (names : Names) (s : Bytes) (at e p : ℕ) → T (eq
 unfolding readAction isHalt
 code-zero-halts c names s at e p t = if-ind (eqb c 0) (got halt e) _ (If (λ (a : Action). T (isHalt a))) (λ _. tt) (λ u. absurd (not-both (eqb c 0) u t))
 
-times-in-order : (c least greatest : ℕ) → T (timesFit c least greatest) → least ≤ greatest
+pub times-in-order : (c least greatest : ℕ) → T (timesFit c least greatest) → least ≤ greatest
 unfolding timesFit
 times-in-order c least greatest = if-ind (eqb c 0) (eqb least 0 && eqb greatest 0) (leb 1 least && leb least greatest) (λ b. T b → least ≤ greatest)
     (λ _ t. let a : least ≡ 0 = eqb→eq least 0 (and-left (eqb least 0) (eqb greatest 0) t) in omega arith)

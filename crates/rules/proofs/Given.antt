@@ -1,4 +1,5 @@
--- Which refusals a search gives, and at which place: 10 and 16 at a statement, 11 to 14 at place 0, no other.
+-- Which refusals a search gives, and at which place: 10 and 16 at a statement, 11 to 14 at place 0, no other. So it is for any step that
+-- stops with these only, and the step of 01 is such a step.
 use mathlib.Core.Option.{Option}
 use mathlib.Core.List.{List, [], _∷_, _++_}
 use Prim.Native.Nat.{ℕ, zero, suc, _+_, max}
@@ -11,7 +12,7 @@ use Rattle.rules.specs.Interval.{Interval, Operator, operate, hull, mayD
 use Rattle.rules.specs.Program.{Arith, constant, register, operation, Condition, always, never, negation, conjunction, equal, less}
 use Rattle.rules.specs.Program.{Action, halt, skip, assign, branch, store, load, unlock, lock, Program}
 use Rattle.rules.specs.Expression.{Regs, evaluate, allParts, narrowYes, narrowNo}
-use Rattle.rules.specs.Search.{State, ThreadState, Live, Next, unread, states, fromValue, branches, effect, Turn, refused, ended, follow, before, events, turnBound, greatestLow, waits, turnOf, turn, liveFrom, Window, Step, stop, goOn, afterTurn, searchStep, End, fails, finds, resume, search}
+use Rattle.rules.specs.Search.{State, ThreadState, Live, Next, unread, states, fromValue, branches, effect, Turn, refused, ended, follow, before, events, turnBound, greatestLow, waits, turnOf, turn, liveFrom, Window, Step, stop, goOn, unseen, afterTurn, Stepper, searchStep, End, fails, finds, resume, searchBy, start, fromBy, searchFrom}
 use Rattle.rules.proofs.Base.{if-ind}
 
 -- arithmetic has two faults
@@ -124,16 +125,24 @@ pub turn-given : (g : Program) (s : State) → GivenTurn (turn g s)
 unfolding turn
 turn-given g s = live-given g s (liveFrom 0 (g .threads) (s .threads))
 
-abbrev GivenStep : Step → Type 0
+abbrev pub GivenStep : Step → Type 0
 GivenStep (stop r p) = Given r p
 GivenStep (goOn xs w) = Unit {0}
 
-step-given : (slots : ℕ) (xs : List State) (w : Window) (t : Turn) → GivenTurn t → GivenStep (afterTurn slots xs w t)
+after-turn-given : (slots : ℕ) (xs : List State) (w : Window) (t : Turn) → GivenTurn t → GivenStep (afterTurn slots xs w t)
 unfolding afterTurn
-step-given slots xs w (refused r p) h = of-turn h
-step-given slots xs w (ended a b) h = tt
-step-given slots xs w (follow new) h =
+after-turn-given slots xs w (refused r p) h = of-turn h
+after-turn-given slots xs w (ended a b) h = tt
+after-turn-given slots xs w (follow new) h =
     if-ind (leb (length xs + length new) slots) (goOn (new ++ xs) w) (stop outOfRoom 0) GivenStep (λ _. tt) (λ _. no-room)
+
+-- a step that stops with these only
+abbrev pub StopsGiven : Stepper → Type 0
+StopsGiven step = (x : State) (xs : List State) (w : Window) → GivenStep (step x xs w)
+
+pub step-given : (g : Program) (slots : ℕ) → StopsGiven (searchStep g slots)
+unfolding searchStep
+step-given g slots x xs w = after-turn-given slots xs w (turn g x) (turn-given g x)
 
 abbrev pub GivenEnd : End → Type 0
 GivenEnd (fails r p n) = Given r p
@@ -144,11 +153,18 @@ unfolding resume
 resume-given n k f (stop r p) h = h
 resume-given n k f (goOn ys w) h = f ys w
 
-pub search-given : (left : ℕ) (g : Program) (slots : ℕ) (xs : List State) (w : Window) (n : ℕ) → GivenEnd (search left g slots xs w n)
-unfolding search searchStep
-search-given zero g slots [] w n = tt
-search-given zero g slots (x ∷ xs) w n = no-steps
-search-given (suc left) g slots [] w n = tt
-search-given (suc left) g slots (x ∷ xs) w n =
-    resume-given (suc n) (λ ys w′. search left g slots ys w′ (suc n)) (λ ys w′. search-given left g slots ys w′ (suc n)) (searchStep g slots x xs w)
-    (step-given slots xs w (turn g x) (turn-given g x))
+search-by-given : (step : Stepper) → StopsGiven step → (left : ℕ) (xs : List State) (w : Window) (n : ℕ) → GivenEnd (searchBy step left xs w n)
+unfolding searchBy
+search-by-given step h zero [] w n = tt
+search-by-given step h zero (x ∷ xs) w n = no-steps
+search-by-given step h (suc left) [] w n = tt
+search-by-given step h (suc left) (x ∷ xs) w n =
+    resume-given (suc n) (λ ys w′. searchBy step left ys w′ (suc n)) (λ ys w′. search-by-given step h left ys w′ (suc n)) (step x xs w) (h x xs w)
+
+pub from-given : (step : Program → ℕ → Stepper) (g : Program) (slots : ℕ) → StopsGiven (step g slots) → GivenEnd (fromBy step g slots)
+unfolding fromBy
+from-given step g slots h = search-by-given (step g slots) h (g .header .budget) (start g ∷ []) unseen 0
+
+pub search-given : (g : Program) (slots : ℕ) → GivenEnd (searchFrom g slots)
+unfolding searchFrom
+search-given g slots = from-given searchStep g slots (step-given g slots)

@@ -6,13 +6,20 @@ use Prim.Native.Nat.{ℕ, zero, suc, _+_, _≤_, _<_, zero-le}
 use native.Mathlib.Nat.{not-suc-le-zero, le-of-suc-le-suc}
 use native.Mathlib.Omega.{arith}
 use lib.ListN.{length, getD, set, length-set}
-use Rattle.rules.specs.Base.{Each}
+use Rattle.rules.specs.Base.{Each, nil}
 use Rattle.rules.specs.Refusal.{value}
-use Rattle.rules.specs.Program.{Thread, Program}
+use Rattle.rules.specs.Program.{Statement, Thread, Program, noStatement, noThread}
 use Rattle.rules.specs.Run.{RunThread, RunState, noRunThread, threadOf, statementOf, live, greatestClock, ThreadsStart, no-more, one-more, Starts}
+use Rattle.rules.specs.Fits.{ThreadFits}
+use Rattle.rules.proofs.Base.{each-at, each-map}
 use Rattle.rules.proofs.Event.{Ends, live-there, acted, Stands, act-stands}
 use Rattle.rules.proofs.Progress.{start-ready}
-use Rattle.rules.proofs.Widths.{ThreadFits, statement-brief}
+
+-- the greatest time of the statement that a thread and a number name
+statement-brief : {vars locks : ℕ} (ts : List Thread) → Each (ThreadFits vars locks) ts → (t k : ℕ) → getD (getD ts t noThread .statements) k noStatement .greatest ≤ 65535
+statement-brief ts h t k =
+    each-at (getD ts t noThread .statements) noStatement zero-le
+    (each-at {P = λ x. Each (λ (y : Statement). y .greatest ≤ 65535) (x .statements)} ts noThread nil (each-map (λ x f. each-map (λ y w. w .two-bytes) (f .statements)) h) t) k
 
 -- ---- the greatest clock
 
@@ -57,7 +64,7 @@ module _ (g : Program) (s : RunState) (t e c : ℕ) (before : Latest g s c) (h :
       omega (arith, before .latest)
 
   -- and at most 65,535 more
-  pub event-soon : Each ThreadFits (g .threads) → e ≤ c + 65535
+  pub event-soon : {vars locks : ℕ} → Each (ThreadFits vars locks) (g .threads) → e ≤ c + 65535
   unfolding threadOf statementOf
   event-soon brief =
       omega (arith, h .soon, before .latest, clock-at-most (s .threads) t, statement-brief (g .threads) brief t (getD (s .threads) t noRunThread .at))

@@ -1,4 +1,4 @@
--- The worked figures, then the laws of the rules from the ground up to demand 3.
+-- The worked figures, then the laws of the rules from the ground up to demand 3, and before the search the sheet's writer.
 pub mod Compute
 pub mod Worked
 pub mod Base
@@ -12,8 +12,21 @@ pub mod Division
 pub mod Total
 pub mod Refusal
 pub mod Format
+pub mod Longest
+pub mod IfAt
+pub mod FieldAt
+pub mod Stands
+pub mod Values
+pub mod ExpressionBytes
+pub mod StatementBytes
+pub mod FieldBytes
+pub mod Row
+pub mod StatementRow
+pub mod ThreadBytes
+pub mod SheetRows
+pub mod Written
+pub mod Encoding
 pub mod Numbers
-pub mod Widths
 pub mod Expression
 pub mod Faults
 pub mod Narrowing
@@ -27,6 +40,7 @@ pub mod Turn
 pub mod Given
 pub mod RunFaults
 pub mod Search
+pub mod SearchNumbers
 pub mod Loop
 pub mod Kept
 pub mod Alike

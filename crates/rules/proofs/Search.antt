@@ -69,8 +69,6 @@ pub record RefusedSheet (r p : ℕ) (a : Answer) : Type 0 where
 pub record SearchedSheet (g : Program) (slots : ℕ) (a : Answer) : Type 0 where
   pub steps-are-taken : a .steps ≡ length (statesTaken g slots)
   pub steps-in-budget : a .steps ≤ g .header .budget
-  -- refusals 1 to 9 are the reader's
-  pub no-early-refusal : (a .refusal ≡ 0 → ⊥) → 10 ≤ a .refusal
   pub window-only : (a .refusal ≡ 0 → ⊥) → (a .refusal ≡ 15 → ⊥) → (a .low ≡ 0) × (a .high ≡ 0)
   -- 11 to 15, and acceptance, have place 0
   pub place-only : (a .refusal ≡ 10 → ⊥) → (a .refusal ≡ 16 → ⊥) → a .place ≡ 0
@@ -91,28 +89,26 @@ pub record StepsAre (g : Program) (taken : List State) (n : ℕ) : Type 0 where
   pub few : n ≤ g .header .budget
 
 module _ (g : Program) (slots : ℕ) where
-  refused-with : (r p n : ℕ) → StepsAre g (statesTaken g slots) n → 10 ≤ r → ((r ≡ 10 → ⊥) → (r ≡ 16 → ⊥) → p ≡ 0) → SearchedSheet g slots (five r p n 0 0)
-  refused-with r p n h k z = record {
+  refused-with : (r p n : ℕ) → StepsAre g (statesTaken g slots) n → ((r ≡ 10 → ⊥) → (r ≡ 16 → ⊥) → p ≡ 0) → SearchedSheet g slots (five r p n 0 0)
+  refused-with r p n h z = record {
     steps-are-taken = h .count;
     steps-in-budget = h .few;
-    no-early-refusal = λ _. k;
     window-only = λ _ _. (refl, refl);
     place-only = z;
   }
 
   failed : (r : Refusal) (p n : ℕ) → Given r p → StepsAre g (statesTaken g slots) n → SearchedSheet g slots (five (number r) p n 0 0)
-  failed r p n (of-turn (unreadable zero-divisor q)) h = refused-with 10 p n h (omega arith) (λ k _. absurd (k refl))
-  failed r p n (of-turn (unreadable off-the-scale q)) h = refused-with 16 p n h (omega arith) (λ _ k. absurd (k refl))
-  failed r p n (of-turn is-stuck) h = refused-with 11 0 n h (omega arith) (λ _ _. refl)
-  failed r p n (of-turn past-limit) h = refused-with 12 0 n h (omega arith) (λ _ _. refl)
-  failed r p n no-steps h = refused-with 13 0 n h (omega arith) (λ _ _. refl)
-  failed r p n no-room h = refused-with 14 0 n h (omega arith) (λ _ _. refl)
+  failed r p n (of-turn (unreadable zero-divisor q)) h = refused-with 10 p n h (λ k _. absurd (k refl))
+  failed r p n (of-turn (unreadable off-the-scale q)) h = refused-with 16 p n h (λ _ k. absurd (k refl))
+  failed r p n (of-turn is-stuck) h = refused-with 11 0 n h (λ _ _. refl)
+  failed r p n (of-turn past-limit) h = refused-with 12 0 n h (λ _ _. refl)
+  failed r p n no-steps h = refused-with 13 0 n h (λ _ _. refl)
+  failed r p n no-room h = refused-with 14 0 n h (λ _ _. refl)
 
   accepted : (n a b : ℕ) → StepsAre g (statesTaken g slots) n → SearchedSheet g slots (five 0 0 n a b)
   accepted n a b h = record {
     steps-are-taken = h .count;
     steps-in-budget = h .few;
-    no-early-refusal = λ z. absurd (z refl);
     window-only = λ z _. absurd (z refl);
     place-only = λ _ _. refl;
   }
@@ -121,7 +117,6 @@ module _ (g : Program) (slots : ℕ) where
   broken n a b h = record {
     steps-are-taken = h .count;
     steps-in-budget = h .few;
-    no-early-refusal = λ _. omega arith;
     window-only = λ _ z. absurd (z refl);
     place-only = λ _ _. refl;
   }
@@ -152,7 +147,7 @@ module _ (g : Program) (slots : ℕ) where
   searched e =
       if-ind (eqb slots 0) (five (number outOfRoom) 0 0 0 0) (judge (g .header .labelLow) (g .header .labelHigh) (searchFrom g slots)) (SearchedSheet g slots)
       (λ t. failed outOfRoom 0 0 no-room (no-slots t))
-      (λ n. judged (searchFrom g slots) (unfold searchFrom in search-given (g .header .budget) g slots (start g ∷ []) unseen 0) (some-slots n))
+      (λ n. judged (searchFrom g slots) (search-given g slots) (some-slots n))
 
 pub searched-sheet : (sheet : Bytes) (n : ℕ) (g : Program) (e : ℕ) → readSheet sheet ≡ got g e → SearchedSheet g (n / numbersPerState) (answer sheet n)
 unfolding answer

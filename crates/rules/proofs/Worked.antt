@@ -15,7 +15,7 @@ pub starred-sheets : StarredSheets
 unfolding table every-rule
 starred-sheets = record {
   all-hold = refl & refl & refl & refl & refl & refl & refl & refl & refl & refl & refl & refl & refl & refl & refl & refl & refl & refl & refl & nil;
-  encoders-are-right = refl;
+  notation-is-right = refl;
 }
 
 pub edges-hold : EdgesHold

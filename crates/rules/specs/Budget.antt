@@ -11,7 +11,8 @@ use Rattle.rules.specs.Program.{Header, Program}
 use Rattle.rules.specs.Format.{Bytes, got, byte, num32, readSheet}
 use Rattle.rules.specs.Run.{RunState, Event, IsRun, Starts}
 use Rattle.rules.specs.Search.{unseen, End, fails, finds, search, start, Answer, five, answerWith, answer}
-use Rattle.rules.specs.Sheets.{four, header, locks, thread, register, halt, branch, constant, reg, less}
+use Rattle.rules.specs.Encoding.{four}
+use Rattle.rules.specs.Sheets.{header, locks, thread, register, halt, branch, constant, reg, less}
 use Rattle.rules.specs.Worked.{Fact, gives, Holds, B-with, C, D, E}
 
 -- ---- "for sheets that read well and budgets in 01's range: any answer but 13 keeps its five numbers under every larger budget"

@@ -33,6 +33,10 @@ greatestLimit = 1000000
 abbrev pub greatestBudget : ℕ
 greatestBudget = 10000000
 
+-- "greatest at most 65,535"
+abbrev pub greatestTime : ℕ
+greatestTime = 65535
+
 -- "It fills 100 numbers of the buffer"
 abbrev pub numbersPerState : ℕ
 numbersPerState = 100

@@ -49,6 +49,15 @@ abbrev pub WindowFound : Type 0
 WindowFound = (sheet : Bytes) (g : Program) (end : ℕ) → readSheet sheet ≡ got g end
     → (slots steps : ℕ) (w : Window) → searchFrom g slots ≡ finds steps w → IsSeen w
 
+-- 0, or one of 10 to 16
+pub record OfSearch (n : ℕ) : Type 0 where
+  pub at-least : (n ≡ 0 → ⊥) → 10 ≤ n
+  pub at-most : n ≤ 16
+
+-- of a sheet that reads, whatever the buffer, the refusal is such a number: none of the reader's 1 to 9, and neither 19 nor 21
+abbrev pub NoSheetFault : Type 0
+NoSheetFault = (sheet : Bytes) (n : ℕ) (g : Program) (end : ℕ) → readSheet sheet ≡ got g end → OfSearch (answer sheet n .refusal)
+
 -- ---- 3. what holds of a list of events that is a run from a starting state
 
 pub record HoldsOfRun (g : Program) (s : RunState) (es : List Event) : Type 0 where

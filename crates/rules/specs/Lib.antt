@@ -5,6 +5,8 @@ pub mod Constants
 pub mod Interval
 pub mod Program
 pub mod Format
+pub mod Encoding
+pub mod Fits
 pub mod Lock
 pub mod Run
 pub mod Expression

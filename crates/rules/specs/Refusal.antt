@@ -35,6 +35,8 @@ pub data Refusal : Type 0 where
   labelBroken : Refusal
   -- a result's interval leaves the 32-bit values (02, ticket 1: "becomes its own number")
   offScale : Refusal
+  -- a lent output is too short (02, ticket 7: "19 for a short copy buffer")
+  outputFull : Refusal
   -- a record is not a run of the sheet (02, ticket 9: "21 not a run")
   notRun : Refusal
 
@@ -55,6 +57,7 @@ number outOfSteps = 13
 number outOfRoom = 14
 number labelBroken = 15
 number offScale = 16
+number outputFull = 19
 number notRun = 21
 
 pub data Result (A : Type 0) : Type 0 where

@@ -1,18 +1,8 @@
--- How a sheet's bytes are written, for the worked sheets and for a budget put into a sheet.
+-- The parts of a worked sheet as bytes, from numbers of any size: so sheets that do not read can be written too.
 use mathlib.Core.List.{[], _∷_, _++_}
-use Prim.Native.Nat.{ℕ, _/_, _%_}
-use lib.ListN.{length}
+use Prim.Native.Nat.{ℕ}
 use Rattle.rules.specs.Format.{Bytes}
-
--- a number in two and in four bytes, the high byte first
-abbrev pub two : ℕ → Bytes
-two n = n / 256 ∷ n % 256 ∷ []
-
-abbrev pub four : ℕ → Bytes
-four n = two (n / 65536) ++ two (n % 65536)
-
-abbrev pub field : ℕ → Bytes → Bytes
-field tag body = tag ∷ two (length body) ++ body
+use Rattle.rules.specs.Encoding.{two, four, field}
 
 -- limit, budget, label low and high
 abbrev pub header : ℕ → ℕ → ℕ → ℕ → Bytes

@@ -101,7 +101,7 @@ table =
     ∷ narrows (P.less (P.register 0) (P.register 0)) (only (pos 3) (pos 4)) none (some (only (pos 3) (pos 4)))
     ∷ []
 
--- the claim: every fact of the table holds, and the encoders make B's very bytes
+-- the claim: every fact of the table holds, and the notation of sheets makes B's very bytes
 pub record StarredSheets : Type 0 where
   pub all-hold : Each Holds table
-  pub encoders-are-right : B-with 10 100 2 3 ≡ B
+  pub notation-is-right : B-with 10 100 2 3 ≡ B

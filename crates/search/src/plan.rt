@@ -1,4 +1,4 @@
-// What a search keeps of the index, beside the table of places.
+// What a search, and the following of a record, keep of the index beside the table of places.
 use reader::MOST_THREADS;
 use reader::Time;
 use reader::threads::ThreadEntry;

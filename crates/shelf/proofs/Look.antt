@@ -10,8 +10,8 @@ use Rattle.rules.specs.Base.{if_then_else_}
 use Rattle.rules.specs.Refusal.{short, outOfTurn}
 use Rattle.rules.specs.Format.{Bytes, Got, bad, got, byte, num16, hasHead, hasBody, due}
 use Rattle.rules.proofs.Base.{if-ind}
-use Rattle.reader.proofs.IfAt.{IfAt, need-at, then-at, map-at, weaker-at}
-use Rattle.reader.proofs.FieldAt.{field-at}
+use Rattle.rules.proofs.IfAt.{IfAt, need-at, then-at, map-at, weaker-at}
+use Rattle.rules.proofs.FieldAt.{field-at}
 use Rattle.shelf.specs.Pairs.{readName, passSheet, Pair, readPair, Look, hit, miss, stop, onPair, lookPairs, lookIn}
 
 -- ---- a pair

@@ -14,7 +14,7 @@ use Rattle.shelf.specs.Pairs.{pair, Pair, readPair, Look, hit, miss, sto
 use Rattle.shelf.specs.Claims.{Entry, pairs, Lack, Without, First, Stops}
 use Rattle.shelf.proofs.Look.{PairSays, pair-says}
 use Rattle.shelf.proofs.Written.{pair-length, sheet-length, read-written}
-use Rattle.reader.proofs.IfAt.{when-got}
+use Rattle.rules.proofs.IfAt.{when-got}
 
 -- ---- one file: what the look says of it
 

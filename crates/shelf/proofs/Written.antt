@@ -6,10 +6,11 @@ use Prim.Native.Nat.{ℕ, suc, _+_, _/_, _%_, _≤_, _<_}
 use native.Mathlib.Omega.{arith}
 use lib.ListN.{length, take, drop, length-append, length-drop, take-append-drop}
 use lib.Seq.{drop-drop, length-take-le, getD-append-add}
-use borrow.Author.Tests.{eq-eqb, le-leb}
+use lib.Dec.{le→leb}
 use Rattle.rules.specs.Format.{Bytes, AreBytes, Got, got, andThen, mapGot, byte, num16, hasHead, hasBody, due}
 use Rattle.rules.proofs.Base.{each-at}
-use Rattle.reader.proofs.FieldAt.{passed, field-reads, one-at}
+use Rattle.rules.proofs.IfAt.{need-yes, eq→eqb}
+use Rattle.rules.proofs.FieldAt.{field-reads, one-at}
 use Rattle.shelf.specs.Pairs.{pair, readName, passSheet, Pair, readPair}
 use Rattle.shelf.proofs.Look.{NameSays, SheetSays, PairSays}
 
@@ -20,14 +21,14 @@ module _ (f : Bytes) (at : ℕ) where
   unfolding readName
   name-reads n q h =
       let l = h .fits in let d = h .ends in let e : at + 3 + 1 ≡ q = omega arith in
-      field-reads 48 1 f at true (byte f (at + 3)) (record { tag-is = h .tag; size-is = h .one; fits = omega arith }) refl ∙ (λ i. got (sym (h .is) i) (e i))
+      field-reads 48 1 f at true (byte f (at + 3)) (record { tag-is = h .tag; size-is = h .one; fits = omega arith }) tt ∙ (λ i. got (sym (h .is) i) (e i))
 
   sheet-reads : (n q : ℕ) → SheetSays f at n q → passSheet f at ≡ got n q
   unfolding passSheet due hasHead hasBody
   sheet-reads n q h =
       let l = h .fits in let o = h .is in
-      passed _ _ at _ (le-leb (at + 3) (length f) (omega arith)) ∙ passed _ _ at _ (eq-eqb (byte f at) 49 (h .tag))
-      ∙ passed _ _ at _ (le-leb (at + 3 + num16 f (at + 1)) (length f) (omega arith))
+      need-yes _ _ at _ (le→leb (at + 3) (length f) (omega arith)) ∙ need-yes _ _ at _ (eq→eqb (byte f at) 49 (h .tag))
+      ∙ need-yes _ _ at _ (le→leb (at + 3 + num16 f (at + 1)) (length f) (omega arith))
       ∙ (λ i. got (sym o i) ((ap (λ (m : ℕ). at + 3 + m) (sym o) ∙ sym (h .ends)) i))
 
 pub pair-reads : (f : Bytes) (at : ℕ) (n m : ℕ) → NameSays f at n (at + 4) → SheetSays f (at + 4) m (at + 7 + m)

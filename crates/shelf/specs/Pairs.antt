@@ -8,7 +8,7 @@ use lib.ListN.{length}
 use Rattle.rules.specs.Base.{if_then_else_}
 use Rattle.rules.specs.Refusal.{Refusal, short}
 use Rattle.rules.specs.Format.{Bytes, Got, bad, got, andThen, need, mapGot, byte, num16, hasBody, due, sized}
-use Rattle.rules.specs.Sheets.{field}
+use Rattle.rules.specs.Encoding.{field}
 
 -- ---- a pair as it is written: a name's field, then a sheet's
 

@@ -2,10 +2,10 @@
 use mathlib.Core.Path.{_≡_}
 use mathlib.Core.List.{List, [], _∷_, _++_}
 use Prim.Native.Nat.{ℕ, _+_, _≤_}
-use lib.Dec.{ltb, eqb}
-use lib.ListN.{length, drop}
+use lib.Dec.{eqb}
+use lib.ListN.{length}
 use denote.Ref.{RefT, now}
-use Rattle.rules.specs.Base.{if_then_else_}
+use Rattle.rules.specs.Base.{if_then_else_, atFront}
 use Rattle.rules.specs.Refusal as R
 use Rattle.rules.specs.Refusal.{number}
 use Rattle.rules.specs.Format.{Bytes, Got, bad, got}
@@ -82,4 +82,4 @@ threeOf a = a .refusal ∷ fileNumber (a .file) ∷ a .place ∷ []
 -- what the exported call gives: the refusal, and the three and the part's size at the front of an array that has room for four
 pub record FourIn (a : Answer) (before after : List ℕ) (r : ℕ) : Type 0 where
   pub refusal : r ≡ a .refusal
-  pub numbers : after ≡ (if ltb (length before) 4 then before else threeOf a ++ a .part .size ∷ drop 4 before)
+  pub numbers : after ≡ atFront (threeOf a ++ a .part .size ∷ []) before

@@ -5,7 +5,7 @@ use Prim.Native.Nat.{ℕ}
 use Rattle.rules.specs.Base.{Each}
 use Rattle.rules.specs.Refusal.{Refusal, short, outOfTurn, badLength, noSuchName}
 use Rattle.rules.specs.Format.{Bytes}
-use Rattle.rules.specs.Sheets.{field}
+use Rattle.rules.specs.Encoding.{field}
 use Rattle.rules.specs.Worked.{B}
 use Rattle.shelf.specs.Pairs.{called, pair}
 use Rattle.shelf.specs.Lookup.{File, customers, ours, Answer, found, refused, lookup}

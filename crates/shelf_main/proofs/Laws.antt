@@ -1,79 +1,39 @@
--- A name, digit by digit; and the line of a refusal, number by number and never longer than 63 bytes.
-use mathlib.Core.Path.{_≡_, refl, sym, ap, _∙_}
-use mathlib.Core.Bool.{Bool, _&&_}
+-- A name; and the line of a refusal, number by number and never longer than 63 bytes.
+use mathlib.Core.Path.{_≡_, sym, ap, _∙_}
+use mathlib.Core.Bool.{Bool}
 use mathlib.Core.List.{List, [], _∷_, _++_}
-use Prim.Native.Nat.{ℕ, suc, _+_, _-_, _^_, _≤_, _<_}
+use Prim.Native.Nat.{ℕ, _^_, _≤_, _<_}
 use native.Mathlib.Omega.{arith}
-use lib.Dec.{leb, eqb}
-use lib.ListN.{length, drop, getD, drop-of-length-le, length-append}
-use lib.Seq.{drop-cons}
+use lib.Dec.{eqb}
+use lib.ListN.{length, getD}
 use borrow.Author.Tests.{le-leb, lt-leb, eq-eqb, ne-eqb}
 use Rattle.rules.specs.Base.{if_then_else_}
 use Rattle.rules.specs.Format.{Bytes}
 use Rattle.rules.specs.Product.{decimal}
 use Rattle.rules.proofs.Base.{if-ind}
-use Rattle.rules.proofs.Compute.{every-rule}
+use Rattle.digits.specs.declared.Number.the-variants as N
+use Rattle.digits.proofs.Laws.{decimals-read, cut-small}
 use Rattle.shelf.specs.Lookup.{lookup}
 use Rattle.shelf.specs.Shape.{threeOf}
 use Rattle.writing.specs.Out.{outOf, write, Writes}
-use Rattle.writing.proofs.Written.{text-then, fits-front}
+use Rattle.writing.proofs.Written.{text-then, fits-inside}
 use Rattle.writing.proofs.Decimal.{number-length}
 use Rattle.shelf_main.specs.declared.Name.the-variants.{Is, Wrong}
-use Rattle.shelf_main.specs.Text.{withDigit, nameFrom, nameIn, NamesRead, longestLine, line, lineUnlessFound, said}
+use Rattle.shelf_main.specs.Text.{nameOf, nameIn, NamesRead, longestLine, line, lineUnlessFound, said}
 
--- ---- each of the 256 names, computed
+-- ---- a name
+
+pub not-held : (k : ℕ) → 255 < k → Wrong ≡ nameOf (N.Is k)
+unfolding nameOf
+not-held k h = rw (lt-leb k 255 h)
+
+pub held : (k : ℕ) → k ≤ 255 → Is k ≡ nameOf (N.Is k)
+unfolding nameOf
+held k h = rw (le-leb k 255 h)
 
 pub names-read : NamesRead
-unfolding every-rule nameIn nameFrom
-names-read = tt
-
--- ---- a name: a loop that stands at a digit
-
--- what the digits so far make, and what is left of them
-abbrev pub SoFar : Bytes → ℕ → ℕ → Type 0
-SoFar ds n i = (nameIn ds ≡ nameFrom n (drop i ds)) × (n ≤ 255)
-
-pub no-digits : (ds : Bytes) → length ds ≡ 0 → Wrong ≡ nameIn ds
 unfolding nameIn
-no-digits [] h = refl
-no-digits (d ∷ ds) h = absurd (omega arith)
-
-pub digits-start : (ds : Bytes) → (length ds ≡ 0 → ⊥) → SoFar ds 0 0
-unfolding nameIn
-digits-start [] h = absurd (h refl)
-digits-start (d ∷ ds) h = (refl, omega arith)
-
-module _ (ds : Bytes) (n i : ℕ) (so-far : SoFar ds n i) where
-  pub digits-over : length ds ≤ i → Is n ≡ nameIn ds
-  unfolding nameFrom
-  digits-over h = sym (so-far .0 ∙ ap (nameFrom n) (drop-of-length-le ds h))
-
-  module _ (h : i < length ds) where
-    abbrev d : ℕ
-    d = getD ds i 0
-
-    -- by the tests on the next digit
-    next : {a b c : Bool} → leb 48 d ≡ a → leb d 57 ≡ b → leb (withDigit n d) 255 ≡ c
-        → nameIn ds ≡ (if (a && b) && c then nameFrom (withDigit n d) (drop (suc i) ds) else Wrong)
-    unfolding nameFrom
-    next e f g =
-        so-far .0 ∙ ap (nameFrom n) (drop-cons ds i 0 h)
-        ∙ (λ t. if (e t && f t) && g t then nameFrom (withDigit n d) (drop (suc i) ds) else Wrong)
-
-    pub below-digits : d < 48 → Wrong ≡ nameIn ds
-    below-digits l = sym (next (lt-leb 48 d l) refl refl)
-
-    pub above-digits : 48 ≤ d → 57 < d → Wrong ≡ nameIn ds
-    above-digits l m = sym (next (le-leb 48 d l) (lt-leb d 57 m) refl)
-
-    module _ (l : 48 ≤ d) (m : d ≤ 57) where
-      pub past-a-byte : 255 < withDigit n d → Wrong ≡ nameIn ds
-      past-a-byte k = sym (next (le-leb 48 d l) (le-leb d 57 m) (lt-leb (withDigit n d) 255 k))
-
-      pub one-more : withDigit n d ≤ 255 → SoFar ds (withDigit n d) (i + 1)
-      one-more k =
-          let e : suc i ≡ i + 1 = omega arith in
-          (next (le-leb 48 d l) (le-leb d 57 m) (le-leb (withDigit n d) 255 k) ∙ ap (λ (j : ℕ). nameFrom (withDigit n d) (drop j ds)) e, k)
+names-read n h = ap nameOf (decimals-read n ∙ ap N.Is (cut-small n (omega arith))) ∙ sym (held n h)
 
 -- ---- a refusal's line
 
@@ -107,9 +67,7 @@ module _ (r f p : ℕ) where
     unfolding lineUnlessFound
     line-fits l m n h e =
         let k : length (lineUnlessFound r f p) ≤ longestLine = if-ind (eqb r 0) [] (line r f p) (λ t. length t ≤ longestLine) (λ _. omega arith) (λ _. line-length) in
-        let d = fits-front (lineUnlessFound r f p) l m n e (omega arith) in
-        let g = ap length (d .0) ∙ length-append (lineUnlessFound r f p) _ in
-        omega (arith, d .1)
+        fits-inside (lineUnlessFound r f p) l m n e (omega arith)
 
 -- ---- what is said of a lookup
 

@@ -1,11 +1,14 @@
 -- What the program takes and gives: a name in decimal; a sheet's bytes, or the line of a refusal.
-use mathlib.Core.Bool.{Bool, false, _&&_}
-use mathlib.Core.List.{[], _∷_, _++_}
-use Prim.Native.Nat.{ℕ, _+_, _-_, _*_}
-use lib.Dec.{T, leb, eqb}
-use Rattle.rules.specs.Base.{if_then_else_, allBelow}
+use mathlib.Core.Path.{_≡_}
+use mathlib.Core.List.{[], _++_}
+use Prim.Native.Nat.{ℕ, _≤_}
+use lib.Dec.{leb, eqb}
+use Rattle.rules.specs.Base.{if_then_else_}
 use Rattle.rules.specs.Format.{Bytes}
 use Rattle.rules.specs.Product.{bytes, decimal}
+use Rattle.digits.specs.declared.Number.{Number}
+use Rattle.digits.specs.declared.Number.the-variants as N
+use Rattle.digits.specs.Digits.{numberIn}
 use Rattle.shelf.specs.Lookup.{fileNumber, bytesOf, lookup}
 use Rattle.shelf_main.specs.declared.Name.{Name}
 use Rattle.shelf_main.specs.declared.Name.the-variants.{Is, Wrong}
@@ -18,28 +21,18 @@ longestFile = 1000000
 abbrev pub longestLine : ℕ
 longestLine = 63
 
--- ---- a name: digits of a number that one byte holds
+-- ---- a name: a number that one byte holds, in decimal
 
--- the number with one digit more
-abbrev pub withDigit : ℕ → ℕ → ℕ
-withDigit n d = n * 10 + (d - 48)
-
--- what the digits behind n make of it
-unfoldable pub nameFrom : ℕ → Bytes → Name
-nameFrom n [] = Is n
-nameFrom n (d ∷ ds) = if (leb 48 d && leb d 57) && leb (withDigit n d) 255 then nameFrom (withDigit n d) ds else Wrong
+unfoldable pub nameOf : Number → Name
+nameOf (N.Is n) = if leb n 255 then Is n else Wrong
+nameOf N.Wrong = Wrong
 
 unfoldable pub nameIn : Bytes → Name
-nameIn [] = Wrong
-nameIn (d ∷ ds) = nameFrom 0 (d ∷ ds)
+nameIn word = nameOf (numberIn word)
 
 -- the claim: each of the 256 names is read from its own decimal
-abbrev pub isNamed : ℕ → Name → Bool
-isNamed n (Is m) = eqb n m
-isNamed n Wrong = false
-
 abbrev pub NamesRead : Type 0
-NamesRead = T (allBelow 256 (λ n. isNamed n (nameIn (decimal n))))
+NamesRead = (n : ℕ) → n ≤ 255 → nameIn (decimal n) ≡ Is n
 
 -- ---- what is written of a name and two files
 

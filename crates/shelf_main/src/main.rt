@@ -1,6 +1,8 @@
 // Looks for a sheet by its name: NAME HIS OURS, a number from 0 to 255 and two files. The sheet's bytes go to standard output. Where
 // the lookup is refused, nothing goes there, and the line `number file place` (file 0 the customer's, 1 ours) goes to standard error.
 // What goes to both, of the bytes that were read, is proved to be what the rule gives.
+use digits::Number;
+use digits::number_in;
 use files::opened;
 use files::reads_on;
 use libc::STDERR_FILENO;
@@ -11,7 +13,7 @@ ghost use mathlib.Core.Path.{_≡_};
 ghost use Prim.Native.Nat.{_+_, _≤_};
 ghost use lib.ListN.{length};
 ghost use Rattle.writing.specs.Out.{Writes};
-ghost use Rattle.shelf_main.specs.Text.{longestFile, longestLine, nameIn, lineUnlessFound, written, said};
+ghost use Rattle.shelf_main.specs.Text.{longestFile, longestLine, nameOf, nameIn, lineUnlessFound, written, said};
 
 // One byte more than the longest file that is looked into, so that a longer one is seen to be too long.
 const MOST_BYTES: usize = 1000001;
@@ -26,30 +28,25 @@ enum Name {
     Wrong,
 }
 
-// The number that digits spell, if one byte holds it.
-fn name_in(digits: &[u8]) -> Name
-    ensures { λ r. ⌜ r ≡ nameIn (now (digits .entry)) ⌝ }
+// A number that one byte holds.
+fn name_of(n: Number) -> Name
+    ensures { λ r. ⌜ r ≡ nameOf n ⌝ }
 {
-    if digits.len() == 0 {
+    let Number::Is(k) = n else {
+        return Name::Wrong;
+    };
+    if k > 255 {
         return Name::Wrong;
     }
-    let mut n: u32 = 0;
-    let mut i: usize = 0;
-    while i < digits.len() {
-        let d = digits[i];
-        if d < b'0' {
-            return Name::Wrong;
-        }
-        if d > b'9' {
-            return Name::Wrong;
-        }
-        n = n * 10 + (d as u32 - 48);
-        if n > 255 {
-            return Name::Wrong;
-        }
-        i += 1;
-    }
-    Name::Is(n as u8)
+    Name::Is(k as u8)
+}
+
+// The name that a word writes in decimal.
+fn name_in(word: &[u8]) -> Name
+    ensures { λ r. ⌜ r ≡ nameIn (now (word .entry)) ⌝ }
+{
+    let n = number_in(word);
+    name_of(n)
 }
 
 fn name_given() -> Name {

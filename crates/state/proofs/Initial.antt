@@ -7,7 +7,6 @@ use native.Mathlib.Omega.{arith}
 use native.Mathlib.Nat.{not-suc-le-zero, le-of-suc-le-suc}
 use native.Mathlib.Numerals.{add-one}
 use lib.ListN.{length, getD, set, replicate}
-use Rattle.rules.specs.Base.{Each, _&_}
 use Rattle.rules.specs.Constants.{mostThreads, mostRegisters, mostLocks}
 use Rattle.rules.specs.Interval.{Interval}
 use Rattle.rules.specs.Lock.{Owner}
@@ -18,6 +17,7 @@ use Rattle.rules.specs.Search as S
 use Rattle.interval.specs.declared.Span.{Span}
 use Rattle.interval.specs.Shape.{intervalOf}
 use Rattle.expression.specs.Evaluation.{regsOf}
+use Rattle.rules.proofs.Base.{each-get}
 use Rattle.reader.specs.declared.Index.{Index}
 use Rattle.reader.specs.declared.threads.ThreadEntry.{ThreadEntry}
 use Rattle.reader.specs.Index.{noEntry, indexOf}
@@ -70,11 +70,6 @@ none-owned (suc n) zero h = absurd (not-suc-le-zero h)
 none-owned (suc n) (suc m) h = ap (λ (r : List Owner). none ∷ r) (none-owned n m (le-of-suc-le-suc h))
 
 -- ---- the sheet
-
-each-get : {A : Type 0} (P : A → Type 0) (xs : List A) (k : ℕ) (d : A) → Each P xs → k < length xs → P (getD xs k d)
-each-get P [] k d h r = absurd (not-suc-le-zero r)
-each-get P (x ∷ xs) zero d (p & h) r = p
-each-get P (x ∷ xs) (suc k) d (p & h) r = each-get P xs k d h (le-of-suc-le-suc r)
 
 module _ (s : Bytes) (i : Index) (g : Program) (e : ℕ) (is : i ≡ indexOf (readSheet s)) (reads : readSheet s ≡ got g e) where
   entry-fits : (t : ℕ) → t < i .threads → EntryFits s (getD (i .entries) t noEntry)

@@ -1,3 +1,4 @@
--- The writer's laws: texts one behind the other, and numbers in decimal.
+-- The writer's laws: texts one behind the other, numbers in decimal, and the line of five numbers.
 pub mod Written
 pub mod Decimal
+pub mod Five

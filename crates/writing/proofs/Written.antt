@@ -1,11 +1,11 @@
 -- Texts that are written one behind the other, and what stands in the buffer where they fit.
 use mathlib.Core.Path.{_≡_, refl, sym, ap, ap₂, _∙_}
 use mathlib.Core.List.{[], _∷_, _++_}
-use Prim.Native.Nat.{ℕ, _+_, _≤_, _<_}
+use Prim.Native.Nat.{ℕ, suc, _+_, _≤_, _<_}
 use native.Mathlib.Omega.{arith}
 use borrow.Author.Tests.{lt-ltb, le-ltb}
-use lib.ListN.{length, set, drop, length-append}
-use lib.Seq.{append-snoc, set-append-seam}
+use lib.ListN.{length, getD, set, take, drop, length-append}
+use lib.Seq.{append-snoc, set-append-seam, take-suc, take-all}
 use Rattle.rules.specs.Format.{Bytes}
 use Rattle.writing.specs.Out.{Out, outOf, put, write, Writes}
 
@@ -35,6 +35,18 @@ pub text-then : (d : Bytes) (b : ℕ) (s : Bytes) (l m n : Bytes) (x y z : ℕ) 
 text-then d b s l m n x y z e f =
     then-writes (d ++ b ∷ []) s l m n x y z e f ∙ ap (λ (t : Bytes). write t (outOf l x)) (append-snoc d b s)
 
+-- one byte more of a text that is written byte by byte
+pub next-writes : (s : Bytes) (i : ℕ) → i < length s → (l m n : Bytes) (x y z : ℕ) → Writes (take i s) l x m y → Writes (getD s i 0 ∷ []) m y n z
+    → Writes (take (i + 1) s) l x n z
+next-writes s i h l m n x y z e f =
+    let k : suc i ≡ i + 1 = omega arith in
+    then-writes (take i s) (getD s i 0 ∷ []) l m n x y z e f
+    ∙ ap (λ (t : Bytes). write t (outOf l x)) (sym (take-suc s i 0 h) ∙ ap (λ (j : ℕ). take j s) k)
+
+-- the whole of it
+pub all-written : (s : Bytes) (i : ℕ) → length s ≤ i → (l m : Bytes) (x y : ℕ) → Writes (take i s) l x m y → Writes s l x m y
+all-written s i h l m x y e = e ∙ ap (λ (t : Bytes). write t (outOf l x)) (take-all i s h)
+
 -- ---- a text that fits stands in the buffer, and what was before and behind it stays
 
 -- behind p the buffer goes on with l
@@ -56,3 +68,10 @@ pub fits-front : (s l m : Bytes) (r : ℕ) → Writes s l 0 m r → length s ≤
 fits-front s l m r e h =
     let done = e ∙ write-fits s [] l h in
     (ap (λ (o : Out). o .buffer) done, omega (arith, ap (λ (o : Out). o .at) done))
+
+-- and the place behind it lies in the buffer
+pub fits-inside : (s l m : Bytes) (r : ℕ) → Writes s l 0 m r → length s ≤ length l → r ≤ length m
+fits-inside s l m r e h =
+    let d = fits-front s l m r e h in
+    let g = ap length (d .0) ∙ length-append s _ in
+    omega (arith, d .1)

@@ -28,3 +28,7 @@ write (b ∷ s) o = write s (put b o)
 -- the text s, written into the buffer l from a place on, makes the buffer m, and the place behind it is r
 abbrev pub Writes : Bytes → Bytes → ℕ → Bytes → ℕ → Type 0
 Writes s l at m r = outOf m r ≡ write s (outOf l at)
+
+-- the longest line of five numbers: ten digits for each number of 32 bits, twenty for the place, and one byte behind each
+abbrev pub longestFive : ℕ
+longestFive = 65

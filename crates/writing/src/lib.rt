@@ -3,7 +3,8 @@
 ghost use mathlib.Core.Path.{_≡_};
 ghost use mathlib.Core.List.{[], _∷_, _++_};
 ghost use Prim.Native.Nat.{_+_, _%_};
-ghost use Rattle.rules.specs.Product.{decimal};
+ghost use Rattle.rules.specs.Search.{five};
+ghost use Rattle.rules.specs.Product.{decimal, line};
 ghost use Rattle.writing.specs.Out.{Writes};
 
 // One byte.
@@ -41,4 +42,36 @@ pub fn put_number(out: &mut [u8], from: usize, n: usize, behind: u8) -> usize
 {
     let at = put_decimal(out, from, n);
     put(out, at, behind)
+}
+
+// The line of five numbers: spaces between them, a newline at the end.
+pub fn put_five(
+    out: &mut [u8],
+    from: usize,
+    refusal: u32,
+    place: usize,
+    steps: u32,
+    low: u32,
+    high: u32,
+) -> usize
+    ensures { λ r. ⌜ Writes (line (five refusal place steps low high)) (now (out .entry)) from (now (out .exit)) r ⌝ }
+{
+    let second = put_number(out, from, refusal as usize, b' ');
+    let third = put_number(out, second, place, b' ');
+    let fourth = put_number(out, third, steps as usize, b' ');
+    let fifth = put_number(out, fourth, low as usize, b' ');
+    put_number(out, fifth, high as usize, b'\n')
+}
+
+// Bytes as they are.
+pub fn put_bytes(out: &mut [u8], from: usize, bytes: &[u8]) -> usize
+    ensures { λ r. ⌜ Writes (now (bytes .entry)) (now (out .entry)) from (now (out .exit)) r ⌝ }
+{
+    let mut at = from;
+    let mut i: usize = 0;
+    while i < bytes.len() {
+        at = put(out, at, bytes[i]);
+        i += 1;
+    }
+    at
 }

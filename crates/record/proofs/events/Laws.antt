@@ -14,8 +14,8 @@ use Rattle.expression.specs.declared.parts.Check.the-variants.{Passed, Fault}
 use Rattle.reader.specs.declared.outcome.End.{End}
 use Rattle.reader.specs.declared.outcome.End.the-variants.{At, Refused}
 use Rattle.reader.specs.Outcome.{endOf}
-use Rattle.reader.proofs.IfAt.{when-got}
-use Rattle.reader.proofs.FieldAt.{Field, field-at}
+use Rattle.rules.proofs.IfAt.{when-got}
+use Rattle.rules.proofs.FieldAt.{Field, field-at}
 use Rattle.reader.proofs.outcome.Laws.{got-of, bad-of}
 use Rattle.record.specs.Follow as F
 use Rattle.record.specs.Follow.{replay, atField, followEvent, followFrom}

@@ -16,7 +16,7 @@ use Rattle.reader.specs.declared.outcome.End.{End}
 use Rattle.reader.specs.declared.outcome.End.the-variants.{At, Refused}
 use Rattle.reader.specs.Outcome.{endOf}
 use Rattle.reader.specs.Decoded.{bodyEnd}
-use Rattle.reader.proofs.IfAt.{when-got}
+use Rattle.rules.proofs.IfAt.{when-got}
 use Rattle.reader.proofs.outcome.Laws.{need-end, got-of, bad-of, same-rule}
 use Rattle.reader.proofs.fields.AnyField.{due-end, sized-end}
 use Rattle.shelf.specs.Pairs as P

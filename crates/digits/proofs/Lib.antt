@@ -1,0 +1,2 @@
+-- Laws of numbers in digits.
+pub mod Laws

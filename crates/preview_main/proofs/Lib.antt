@@ -1,0 +1,3 @@
+-- Laws of what the program prints, and of its arguments.
+pub mod Cut
+pub mod Laws

@@ -1,0 +1,127 @@
+-- The change, case by case: by what the code finds and tests.
+use mathlib.Core.Path.{_≡_, refl, sym, ap, _∙_}
+use mathlib.Core.Bool.{Bool, true, false, _&&_}
+use Prim.Native.Nat.{ℕ, _+_, _≤_, _<_}
+use native.Mathlib.Omega.{arith}
+use borrow.Author.Tests.{le-leb, lt-leb}
+use lib.Dec.{T, leb}
+use lib.ListN.{length}
+use Rattle.rules.specs.Constants.{greatestTime}
+use Rattle.rules.specs.Refusal as R
+use Rattle.rules.specs.Refusal.{number, noSuchName, offRange}
+use Rattle.rules.specs.Program.{Program}
+use Rattle.rules.specs.Format.{Bytes, bad, got, timesFit, readSheet}
+use Rattle.rules.specs.Encoding.{codeOf}
+use Rattle.rules.proofs.Format.{times-in-order}
+use Rattle.rules.proofs.IfAt.{need-yes, need-no, then-got, then-bad, is-true}
+use Rattle.reader.specs.Facts.{statementIn}
+use Rattle.reader.proofs.Facts.{program-facts, statement-in}
+use Rattle.retime.specs.declared.find.Found.{Found}
+use Rattle.retime.specs.declared.change.Changed as C
+use Rattle.retime.specs.Retime.{retimed, isStatement, mayHave, changeTimes, changed, change}
+use Rattle.retime.specs.Shape.{mayBy, changedAs, changedOf}
+use Rattle.retime.proofs.Retime.{thread-there, statement-there, may-times, may-small}
+use Rattle.retime.proofs.Finding.{FoundThere}
+
+-- ---- the rule, case by case
+
+module _ (s : Bytes) (t k l h : ℕ) where
+  pub times-unread : {r : R.Refusal} {p : ℕ} → readSheet s ≡ bad r p → changeTimes s t k l h ≡ bad r p
+  unfolding changeTimes
+  times-unread e = then-bad _ e
+
+  module _ (g : Program) (e : ℕ) (r : readSheet s ≡ got g e) where
+    pub times-absent : isStatement g t k ≡ false → changeTimes s t k l h ≡ bad noSuchName 0
+    unfolding changeTimes
+    times-absent n = then-got _ r ∙ need-no (isStatement g t k) _ _ _ n
+
+    module _ (i : T (isStatement g t k)) where
+      pub times-off : mayHave (statementIn g t k) l h ≡ false → changeTimes s t k l h ≡ bad offRange 0
+      unfolding changeTimes
+      times-off m = then-got _ r ∙ need-yes (isStatement g t k) _ _ _ i ∙ need-no (mayHave (statementIn g t k) l h) _ _ _ m
+
+      pub times-made : T (mayHave (statementIn g t k) l h) → changeTimes s t k l h ≡ got (retimed s (statementIn g t k .place) l h) e
+      unfolding changeTimes
+      times-made m = then-got _ r ∙ need-yes (isStatement g t k) _ _ _ i ∙ need-yes (mayHave (statementIn g t k) l h) _ _ _ m
+
+  -- the answer that the rule's outcome is
+  pub change-refused : {r : R.Refusal} {p : ℕ} → changeTimes s t k l h ≡ bad r p → change s t k l h ≡ record { refusal = number r; place = p; sheet = s }
+  unfolding change changed
+  change-refused e = ap (changed s) e
+
+  pub change-made : {new : Bytes} {e : ℕ} → changeTimes s t k l h ≡ got new e → change s t k l h ≡ record { refusal = 0; place = 0; sheet = new }
+  unfolding change changed
+  change-made e = ap (changed s) e
+
+-- where the statement that is there has room for its times
+module _ (s : Bytes) (t k : ℕ) (g : Program) (e : ℕ) (r : readSheet s ≡ got g e) (i : T (isStatement g t k)) where
+  pub statement-room : statementIn g t k .place + 7 ≤ length s
+  statement-room = omega (arith, statement-in (program-facts s g e r) t (thread-there g t k i) k (statement-there g t k i) .head)
+
+  module _ (l h : ℕ) (m : T (mayHave (statementIn g t k) l h)) where
+    pub greatest-small : h < 65536
+    greatest-small = omega (arith, may-small (statementIn g t k) l h m)
+
+    pub least-small : l < 65536
+    least-small =
+        let x = statementIn g t k in
+        omega (arith, may-small x l h m, times-in-order (codeOf (x .action)) l h (may-times x l h m))
+
+-- ---- the code's test of times
+
+module _ (c l h : ℕ) where
+  pub may-large : greatestTime < h → false ≡ mayBy c l h
+  may-large g = sym (ap (λ (b : Bool). timesFit c l h && b) (lt-leb h greatestTime g) ∙ and-no (timesFit c l h))
+    where
+      and-no : (b : Bool) → (b && false) ≡ false
+      and-no true = refl
+      and-no false = refl
+
+  reversed : h < l → timesFit c l h ≡ false
+  reversed g = by (timesFit c l h) (times-in-order c l h)
+    where
+      by : (b : Bool) → (T b → l ≤ h) → b ≡ false
+      by true f = let e = f tt in absurd (omega arith)
+      by false f = refl
+
+  pub may-reversed : h < l → false ≡ mayBy c l h
+  may-reversed g = sym (ap (λ (b : Bool). b && leb h greatestTime) (reversed g))
+
+  pub may-small-times : h ≤ greatestTime → timesFit c l h ≡ mayBy c l h
+  may-small-times g = sym (ap (λ (b : Bool). timesFit c l h && b) (le-leb h greatestTime g) ∙ and-yes (timesFit c l h))
+    where
+      and-yes : (b : Bool) → (b && true) ≡ b
+      and-yes true = refl
+      and-yes false = refl
+
+-- ---- what the code finds, tests and gives
+
+module _ {s : Bytes} {t k : ℕ} {f : Found} (w : FoundThere s t k f) (l h : ℕ) where
+  may-of : mayHave (statementIn (w .program) t k) l h ≡ mayBy (f .code) l h
+  unfolding mayHave
+  may-of = ap (λ (y : Found). mayBy (y .code) l h) (sym (w .same))
+
+  place-of : statementIn (w .program) t k .place ≡ f .place
+  place-of = ap (λ (y : Found). y .place) (sym (w .same))
+
+  -- the code writes where there is room, numbers that two bytes hold
+  pub may-write : mayBy (f .code) l h ≡ true → (f .place + 7 ≤ length s) × (l < 65536) × (h < 65536)
+  may-write m =
+      let g = w .program in
+      let a = is-true (mayHave (statementIn g t k) l h) (may-of ∙ m) in
+      let room : f .place + 7 ≤ length s = omega (arith, statement-room s t k g (w .end) (w .reads) (w .there), place-of) in
+      (room, least-small s t k g (w .end) (w .reads) (w .there) l h a, greatest-small s t k g (w .end) (w .reads) (w .there) l h a)
+
+  pub found-made : mayBy (f .code) l h ≡ true → {c : C.Changed} {new : Bytes} → new ≡ retimed s (f .place) l h → c ≡ changedAs 0 0 → changedOf c new ≡ change s t k l h
+  found-made m a b =
+      let g = w .program in
+      let made = times-made s t k l h g (w .end) (w .reads) (w .there) (is-true (mayHave (statementIn g t k) l h) (may-of ∙ m)) in
+      (λ i. changedOf (b i) ((a ∙ ap (λ (p : ℕ). retimed s p l h) (sym place-of)) i)) ∙ sym (change-made s t k l h made)
+
+  pub found-off : mayBy (f .code) l h ≡ false → changeTimes s t k l h ≡ bad offRange 0
+  found-off m = times-off s t k l h (w .program) (w .end) (w .reads) (w .there) (may-of ∙ m)
+
+-- refused: the number and its place, and the sheet as it was
+pub given-refused : (s : Bytes) (t k l h : ℕ) {r : R.Refusal} {p n : ℕ} {c : C.Changed} → changeTimes s t k l h ≡ bad r p → n ≡ number r → c ≡ changedAs n p
+    → changedOf c s ≡ change s t k l h
+given-refused s t k l h {p = p} e m b = (λ i. changedOf (b i) s) ∙ (λ i. changedOf (changedAs (m i) p) s) ∙ sym (change-refused s t k l h e)

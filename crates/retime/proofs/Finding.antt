@@ -1,0 +1,105 @@
+-- A statement found by its thread and its number is the program's statement, or there is none.
+use mathlib.Core.Path.{_≡_, refl, sym, ap, _∙_}
+use mathlib.Core.Bool.{Bool, true, false}
+use Prim.Native.Nat.{ℕ, _+_, _*_, _≤_, _<_}
+use native.Mathlib.Omega.{arith}
+use borrow.Author.Tests.{lt-ltb, le-ltb}
+use lib.Dec.{T}
+use lib.ListN.{length, getD}
+use Rattle.rules.specs.Base.{if_then_else_}
+use Rattle.rules.specs.Constants.{mostThreads, mostStatements}
+use Rattle.rules.specs.Program.{Statement, Program}
+use Rattle.rules.specs.Format.{Bytes, AreBytes, got, readSheet}
+use Rattle.reader.specs.Facts.{threadIn, statementIn}
+use Rattle.reader.specs.declared.Index.{Index}
+use Rattle.reader.specs.Index.{noEntry, indexOf}
+use Rattle.reader.proofs.Facts.{accepted, program-facts, thread-in, index-facts, place-head}
+use Rattle.retime.specs.declared.find.Found.{Found}
+use Rattle.retime.specs.Retime.{isStatement}
+use Rattle.retime.specs.Shape.{noneFound, foundOf, foundAt, foundIn, Finds}
+use Rattle.retime.proofs.Retime.{code-at}
+
+-- ---- by the index
+
+module _ (s : Bytes) {i : Index} (q : i ≡ indexOf (readSheet s)) (t k : ℕ) where
+  -- no such thread
+  pub no-thread : {f : Found} → i .threads ≤ t → f ≡ noneFound → Finds s t k f
+  unfolding foundIn isStatement
+  no-thread h w g e r =
+      let m : length (g .threads) ≤ t = omega (arith, index-facts g e q r .threads) in
+      rw (le-ltb t (length (g .threads)) m) w
+
+  count-is : (g : Program) (e : ℕ) → readSheet s ≡ got g e → t < length (g .threads) → getD (i .entries) t noEntry .statements ≡ length (threadIn g t .statements)
+  count-is g e r h = ap (λ x. x .statements) (index-facts g e q r .entries t h)
+
+  module _ (h : t < i .threads) where
+    known : (g : Program) (e : ℕ) → readSheet s ≡ got g e → t < length (g .threads)
+    known g e r = omega (arith, index-facts g e q r .threads)
+
+    pub thread-small : i .refusal ≡ 0 → t < mostThreads
+    thread-small z = let (g, e, r) = accepted (readSheet s) q z in omega (arith, program-facts s g e r .threads-few, known g e r)
+
+    -- no such statement in it
+    pub no-statement : {f : Found} → getD (i .entries) t noEntry .statements ≤ k → f ≡ noneFound → Finds s t k f
+    unfolding foundIn isStatement
+    no-statement c w g e r =
+        let m : length (threadIn g t .statements) ≤ k = omega (arith, count-is g e r (known g e r)) in
+        rw (lt-ltb t (length (g .threads)) (known g e r), le-ltb k (length (threadIn g t .statements)) m) w
+
+    module _ (c : k < getD (i .entries) t noEntry .statements) where
+      counted : (g : Program) (e : ℕ) → readSheet s ≡ got g e → k < length (threadIn g t .statements)
+      counted g e r = omega (arith, count-is g e r (known g e r))
+
+      -- there is one
+      pub one-found : AreBytes s → {f : Found} → f ≡ foundAt s (getD (i .places) (t * mostStatements + k) 0) → Finds s t k f
+      unfolding foundIn isStatement
+      one-found o w g e r =
+          let a = known g e r in let b = counted g e r in
+          let x = index-facts g e q r in
+          let y = statementIn g t k in
+          rw (lt-ltb t (length (g .threads)) a, lt-ltb k (length (threadIn g t .statements)) b)
+          (w ∙ (λ j. foundAt s (x .places t k a b j)) ∙ ap (λ (c : ℕ). record { there = true; place = y .place; code = c }) (code-at s o g e t k r a b))
+
+      module _ (z : i .refusal ≡ 0) where
+        pub found-head : getD (i .places) (t * mostStatements + k) 0 + 8 ≤ length s
+        found-head =
+            let (g, e, r) = accepted (readSheet s) q z in
+            place-head (program-facts s g e r) (index-facts g e q r) t k (known g e r) (counted g e r)
+
+        pub found-small : t * mostStatements + k < mostThreads * mostStatements
+        found-small =
+            let (g, e, r) = accepted (readSheet s) q z in
+            let p = program-facts s g e r in
+            omega (arith, p .threads-few, known g e r, counted g e r, thread-in p t (known g e r) .few)
+
+-- ---- what was found, for a sheet that reads
+
+pub record FoundThere (s : Bytes) (t k : ℕ) (f : Found) : Type 0 where
+  pub program : Program
+  pub end : ℕ
+  pub reads : readSheet s ≡ got program end
+  pub there : T (isStatement program t k)
+  pub same : f ≡ foundOf (statementIn program t k)
+
+there-is : (b : Bool) (x : Statement) (f : Found) → f ≡ (if b then foundOf x else noneFound) → f .there ≡ true → T b × (f ≡ foundOf x)
+there-is true x f e h = (tt, e)
+there-is false x f e h = let z : _≡_ {A = Bool} true false = sym h ∙ ap (λ (y : Found). y .there) e in let n : _≡_ {A = ℕ} 0 1 = cc in absurd (omega arith)
+
+there-no : (b : Bool) (x : Statement) (f : Found) → f ≡ (if b then foundOf x else noneFound) → f .there ≡ false → b ≡ false
+there-no true x f e h = let z : _≡_ {A = Bool} true false = sym (ap (λ (y : Found). y .there) e) ∙ h in let n : _≡_ {A = ℕ} 0 1 = cc in absurd (omega arith)
+there-no false x f e h = refl
+
+module _ (s : Bytes) {i : Index} (q : i ≡ indexOf (readSheet s)) (z : i .refusal ≡ 0) (t k : ℕ) {f : Found} (w : Finds s t k f) where
+  pub found-there : f .there ≡ true → FoundThere s t k f
+  unfolding foundIn
+  found-there h =
+      let (g, e, r) = accepted (readSheet s) q z in
+      let m = there-is (isStatement g t k) (statementIn g t k) f (w g e r) h in
+      record { program = g; end = e; reads = r; there = m .0; same = m .1 }
+
+  -- the program has no such statement
+  pub found-none : f .there ≡ false → (g : Program) × (e : ℕ) × (readSheet s ≡ got g e) × (isStatement g t k ≡ false)
+  unfolding foundIn
+  found-none h =
+      let (g, e, r) = accepted (readSheet s) q z in
+      (g, e, r, there-no (isStatement g t k) (statementIn g t k) f (w g e r) h)

@@ -1,0 +1,60 @@
+-- The five numbers of a preview, case by case.
+use mathlib.Core.Path.{_≡_, sym, ap, _∙_}
+use Prim.Native.Nat.{ℕ, _≤_, _<_}
+use borrow.Author.Tests.{lt-leb}
+use lib.Dec.{leb, le→leb}
+use lib.ListN.{length}
+use Rattle.rules.specs.Refusal as R
+use Rattle.rules.specs.Refusal.{number, outputFull}
+use Rattle.rules.specs.Program.{Program}
+use Rattle.rules.specs.Format.{Bytes, Got, bad, got, readSheet}
+use Rattle.rules.specs.Search as S
+use Rattle.rules.specs.Search.{five, answer}
+use Rattle.rules.proofs.Refusal.{positive}
+use Rattle.rules.proofs.IfAt.{need-yes, need-no, then-got, then-bad}
+use Rattle.label.specs.declared.Answer.{Answer}
+use Rattle.label.specs.Shape.{answerOf, fiveOf}
+use Rattle.retime.specs.declared.change.Changed as C
+use Rattle.retime.specs.Retime.{Changed, changeTimes, changed, change, checked, previewAnswer}
+use Rattle.retime.specs.Shape.{changedOf}
+
+-- ---- the rule, case by case
+
+module _ (s : Bytes) (m n t k l h : ℕ) where
+  pub preview-unread : {r : R.Refusal} {p : ℕ} → readSheet s ≡ bad r p → previewAnswer s m n t k l h ≡ five (number r) p 0 0 0
+  unfolding previewAnswer checked
+  preview-unread e = ap (checked n) (then-bad _ e)
+
+  module _ (g : Program) (e : ℕ) (r : readSheet s ≡ got g e) where
+    pub preview-full : m < length s → previewAnswer s m n t k l h ≡ five (number outputFull) 0 0 0 0
+    unfolding previewAnswer checked
+    preview-full c = ap (checked n) (then-got _ r ∙ need-no (leb (length s) m) outputFull 0 (changeTimes s t k l h) (lt-leb (length s) m c))
+
+    pub preview-room : length s ≤ m → previewAnswer s m n t k l h ≡ checked n (changeTimes s t k l h)
+    unfolding previewAnswer
+    preview-room c = ap (checked n) (then-got _ r ∙ need-yes (leb (length s) m) outputFull 0 (changeTimes s t k l h) (le→leb (length s) m c))
+
+-- a number of the code's, at a place, is the rule's
+pub as-refused : (q : R.Refusal) {a : Answer} {j p : ℕ} {x : S.Answer} → x ≡ five (number q) p 0 0 0 → j ≡ number q → a ≡ fiveOf j p 0 0 0 → answerOf a ≡ x
+as-refused q {p = p} e n b = ap answerOf b ∙ (λ i. five (n i) p 0 0 0) ∙ sym e
+
+-- ---- the check of the changed copy, by what the change gave
+
+changed-good : (s : Bytes) (G : Got Bytes) {x : Changed} → x ≡ changed s G → x .refusal ≡ 0 → (n : ℕ) → answer (x .sheet) n ≡ checked n G
+unfolding changed checked
+changed-good s (bad r p) h z n = absurd (positive r (ap (λ (y : Changed). y .refusal) (sym h) ∙ z))
+changed-good s (got new e) h z n = ap (λ (y : Changed). answer (y .sheet) n) h
+
+changed-bad : (s : Bytes) (G : Got Bytes) {x : Changed} → x ≡ changed s G → (x .refusal ≡ 0 → ⊥) → (n : ℕ) → five (x .refusal) (x .place) 0 0 0 ≡ checked n G
+unfolding changed checked
+changed-bad s (bad r p) h z n = λ i. five (h i .refusal) (h i .place) 0 0 0
+changed-bad s (got new e) h z n = absurd (z (ap (λ (y : Changed). y .refusal) h))
+
+module _ (s : Bytes) (t k l h : ℕ) {c : C.Changed} {new : Bytes} (b : changedOf c new ≡ change s t k l h) (n : ℕ) {a : Answer} where
+  pub checks-changed : c .refusal ≡ 0 → answerOf a ≡ answer new n → answerOf a ≡ checked n (changeTimes s t k l h)
+  unfolding change
+  checks-changed z e = e ∙ changed-good s (changeTimes s t k l h) b z n
+
+  pub keeps-refusal : (c .refusal ≡ 0 → ⊥) → a ≡ fiveOf (c .refusal) (c .place) 0 0 0 → answerOf a ≡ checked n (changeTimes s t k l h)
+  unfolding change
+  keeps-refusal z e = ap answerOf e ∙ changed-bad s (changeTimes s t k l h) b z n

@@ -1,0 +1,72 @@
+// New times on one statement: the four time bytes are written in the sheet, and no other byte.
+use crate::find::find;
+use crate::times::may_have;
+use crate::times::write_times;
+use reader::Index;
+use reader::read_sheet;
+use refusal::Refusal;
+use refusal::number_of;
+ghost use mathlib.Core.Path.{_≡_};
+ghost use Rattle.rules.specs.Format.{readSheet};
+ghost use Rattle.reader.specs.Index.{indexOf};
+ghost use Rattle.retime.specs.Retime.{change};
+ghost use Rattle.retime.specs.Claims.{ReadsRetimed};
+ghost use Rattle.retime.specs.Shape.{changedAs, changedOf};
+
+// Refusal 0 at place 0: the change was made. Any other: the sheet is as it was.
+pub struct Changed {
+    pub refusal: u32,
+    pub place: usize,
+}
+
+fn answered(refusal: u32, place: usize) -> Changed
+    ensures { λ r. ⌜ r ≡ changedAs refusal place ⌝ }
+{
+    Changed {
+        refusal: refusal,
+        place: place,
+    }
+}
+
+// The change of a sheet that reads, by its index.
+pub(crate) fn change_by(
+    sheet: &mut [u8],
+    index: Index,
+    thread: usize,
+    statement: usize,
+    least: u64,
+    greatest: u64,
+) -> Changed
+    requires { ⌜ (index ≡ indexOf (readSheet (now sheet))) × (index .refusal ≡ 0) ⌝ }
+    ensures { λ r. ⌜ changedOf r (now (sheet .exit)) ≡ change (now (sheet .entry)) thread statement least greatest ⌝ }
+{
+    let f = find(sheet, index, thread, statement);
+    if f.there {
+        if may_have(f.code, least, greatest) {
+            write_times(sheet, f.place, least, greatest);
+            return answered(0, 0);
+        }
+        let number = number_of(Refusal::OffRange);
+        return answered(number, 0);
+    }
+    let number = number_of(Refusal::NoSuchName);
+    answered(number, 0)
+}
+
+// Sets new times on a statement, named by its thread and its number in it, both from 0.
+pub fn change_times(
+    sheet: &mut [u8],
+    thread: usize,
+    statement: usize,
+    least: u64,
+    greatest: u64,
+) -> Changed
+    ensures { λ r. ⌜ changedOf r (now (sheet .exit)) ≡ change (now (sheet .entry)) thread statement least greatest ⌝ }
+    ensures { λ _. ⌜ ReadsRetimed (now (sheet .entry)) thread statement least greatest ⌝ }
+{
+    let index = read_sheet(sheet);
+    if index.refusal == 0 {
+        return change_by(sheet, index, thread, statement, least, greatest);
+    }
+    answered(index.refusal, index.place)
+}

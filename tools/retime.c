@@ -1,0 +1,81 @@
+/*
+ * Prints the five numbers that new times on a statement would give: refusal, place, steps, low, high. With the word write behind them
+ * it makes the change instead: the changed sheet goes to standard output, refusal and place to standard error.
+ */
+#include "zumbeiry.h"
+
+#include <inttypes.h>
+#include <stdio.h>
+#include <stdlib.h>
+#include <string.h>
+
+/* One byte more than the longest sheet that is read: a longer file is refused like this one. */
+static uint8_t sheet[16385];
+static uint8_t copy[16385];
+static int32_t work[12000];
+
+static size_t read_sheet(const char *path)
+{
+    FILE *file = fopen(path, "rb");
+    if (file == NULL) {
+        perror(path);
+        exit(2);
+    }
+    size_t length = fread(sheet, 1, sizeof sheet, file);
+    if (ferror(file)) {
+        perror(path);
+        exit(2);
+    }
+    fclose(file);
+    return length;
+}
+
+/* The number that decimal digits give; the program ends if it does not fit 64 bits, or if there is something else. */
+static uint64_t number_of(const char *digits)
+{
+    uint64_t number = 0;
+    for (const char *at = digits; at == digits || *at != '\0'; at++) {
+        uint64_t digit = (uint64_t)*at - '0';
+        if (*at < '0' || *at > '9' || number > (UINT64_MAX - digit) / 10) {
+            fprintf(stderr, "not a number, or too large: %s\n", digits);
+            exit(2);
+        }
+        number = 10 * number + digit;
+    }
+    return number;
+}
+
+/* Puts the sheet out if it was changed; gives how the program ends. */
+static int written(const uint64_t *answer, size_t length)
+{
+    fprintf(stderr, "%" PRIu64 " %" PRIu64 "\n", answer[0], answer[1]);
+    if (answer[0] != 0)
+        return 1;
+    if (fwrite(sheet, 1, length, stdout) < length || fflush(stdout) != 0) {
+        perror("standard output");
+        return 2;
+    }
+    return 0;
+}
+
+int main(int count, char **arguments)
+{
+    if (count != 6 && (count != 7 || strcmp(arguments[6], "write") != 0)) {
+        fprintf(stderr, "usage: retime SHEET THREAD STATEMENT LEAST GREATEST [write]\n");
+        return 2;
+    }
+    size_t length = read_sheet(arguments[1]);
+    size_t thread = number_of(arguments[2]), statement = number_of(arguments[3]);
+    uint64_t least = number_of(arguments[4]), greatest = number_of(arguments[5]);
+
+    uint64_t answer[5];
+    if (count == 7) {
+        zumbeiry_change_times(sheet, length, thread, statement, least, greatest, answer, 2);
+        return written(answer, length);
+    }
+    uint32_t refusal = zumbeiry_preview(sheet, length, copy, sizeof copy, work, 12000,
+                                        thread, statement, least, greatest, answer, 5);
+    printf("%" PRIu64 " %" PRIu64 " %" PRIu64 " %" PRIu64 " %" PRIu64 "\n",
+           answer[0], answer[1], answer[2], answer[3], answer[4]);
+    return refusal == 0 ? 0 : 1;
+}

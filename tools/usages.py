@@ -1,0 +1,76 @@
+"""What ./zumbeiry prints of its verbs when it is asked for help."""
+
+VERBS = """usage: ./zumbeiry VERB ..
+
+  check FILE..           may the label stay on the sheet?
+  find NAME HIS OURS     the sheet with that name, from the customer's file or else from ours
+  follow SHEET RECORD    is what the machine recorded a run of the sheet, and did the label hold?
+  preview SHEET THREAD STATEMENT LEAST..GREATEST
+                         what would the check give, had that statement these times?
+
+./zumbeiry VERB --help says more."""
+
+CHECK = """usage: ./zumbeiry check [--numbers] [--text | --bytes] FILE..
+
+Prints for each sheet the five numbers (refusal, place, steps, low, high) and the same in words.
+FILE is a sheet as bytes, or as text (the notation: tools/sheet.py); - is standard input.
+
+  --numbers    the lines of five numbers alone
+  --text       every FILE is text
+  --bytes      every FILE is bytes
+
+If neither is said, a FILE is text if it is not empty and holds no control characters but tabs and
+line ends. (The bytes of a sheet begin with a control character, byte 1.)
+Bytes, threads, statements and names count from 0, lines of a text from 1.
+
+Ends with 0 if every sheet is accepted, 1 if one is refused, 2 if one could not be read or checked."""
+
+FIND = """usage: ./zumbeiry find [--check [--numbers]] NAME HIS OURS
+
+Looks for a sheet by its name in the customer's file, HIS, else in our file, OURS, and writes the
+bytes of the first one to standard output. A file has pairs of fields, a name and then a sheet
+(tools/shelf_file.py makes such files). NAME is a number from 0 to 255; one of the files may be -,
+standard input. Both files are read before the look, so that an OURS which is missing or has more
+than 1,000,000 bytes is told even where HIS has the name.
+
+  --check      does not write the sheet that is found, but checks it as ./zumbeiry check --bytes does
+  --numbers    with --check: the lines of numbers alone
+
+A refusal goes to standard error, as a line of three numbers and the same in words: the refusal, the
+file (0 the customer's, 1 ours) and the offset of the field at fault.
+
+Ends with 0 if the sheet is found (with --check: and accepted), 1 if the lookup or the check is refused,
+2 if a file could not be read or there is no answer."""
+
+FOLLOW = """usage: ./zumbeiry follow [--numbers] [--text | --bytes] SHEET RECORD
+
+Follows what the machine recorded of a job through the job's sheet: is it a run, has it finished, at
+which tick, and did the label hold? Prints five numbers and the same in words: the refusal (0: a run),
+the file at fault (0 the sheet, 1 the record), the offset of the field at fault, whether the run has
+finished (1) or not (0), and its last tick. What is refused is unfinished at tick 0.
+SHEET is bytes or text, as for check. RECORD is bytes: fields of tag 32 with the starting values, the
+variables first and then the registers of each thread, and a field of tag 33 for each event, its
+thread and the recorder's clock of sixteen bits. One of the files may be -, standard input.
+
+  --numbers    the line of five numbers alone
+  --text       SHEET is text
+  --bytes      SHEET is bytes
+
+Ends with 0 if the record is a run whose label holds so far, 1 if a file is refused or the run is
+outside the label, 2 if a file could not be read or there is no answer."""
+
+PREVIEW = """usage: ./zumbeiry preview [--numbers] [--text | --bytes] [--write] SHEET THREAD STATEMENT LEAST..GREATEST
+
+Shows what new times on one statement would give: two lines of five numbers (refusal, place, steps, low,
+high), what the check of SHEET gives now and what it would give, and the same in words. Threads, and the
+statements of each, count from 0; the times are two numbers of ticks, as in 2..3.
+SHEET is bytes or text, as for check; - is standard input.
+
+  --numbers    the two lines of five numbers alone
+  --text       SHEET is text
+  --bytes      SHEET is bytes
+  --write      then writes the new times into SHEET, four bytes of it, unless they are refused; also where
+               the check would then refuse the sheet. SHEET is a file of bytes: a text is not written
+
+Ends with 0 if the label may stay with the new times, 1 if the sheet, the times or the changed sheet is
+refused, 2 if a file could not be read or written or there is no answer."""
