@@ -1,4 +1,5 @@
-//! Microseconds of a change of times, and of a check and a preview without a search and with one, on the sheets that are named.
+//! Microseconds of a change of times, of taking it back, and of a check and a preview without a search and with one, on the sheets
+//! that are named.
 //!
 //!     bench_retime FILE..     the best of twenty runs of a hundred calls each, by turns, in one process
 //!
@@ -18,7 +19,7 @@ use std::time::Duration;
 use std::{env, fs};
 use timing::timed;
 use zumbeiry::check;
-use zumbeiry_retime::{change, preview, Asked};
+use zumbeiry_retime::{change, preview, take_back, Asked};
 
 const RUNS: usize = 20;
 const CALLS: u32 = 100;
@@ -41,7 +42,7 @@ fn asked(sheet: &[u8]) -> Asked {
     let of_thread =
         |thread| (0..MOST_STATEMENTS).map(move |statement| Asked { thread, statement, least: 1, greatest: 2 });
     let all = (0..MOST_THREADS).flat_map(of_thread);
-    all.filter(|&asked| change(&mut sheet.to_vec(), asked) == [0, 0]).last().expect("a statement")
+    all.filter(|&asked| change(&mut sheet.to_vec(), asked).refusal == 0).last().expect("a statement")
 }
 
 struct Case {
@@ -51,8 +52,8 @@ struct Case {
     changed: Vec<u8>,
     copy: Vec<u8>,
     steps: u64,
-    /// Of the change, of check and preview without a search, of both with one.
-    best: [Duration; 5],
+    /// Of the change, of taking it back, of check and preview without a search, of both with one.
+    best: [Duration; 6],
 }
 
 impl Case {
@@ -60,13 +61,15 @@ impl Case {
         let sheet = fs::read(&file).unwrap_or_else(|error| panic!("{file}: {error}"));
         let name = Path::new(&file).file_stem().unwrap_or_default().to_string_lossy().into_owned();
         let (asked, changed, copy) = (asked(&sheet), sheet.clone(), vec![0; sheet.len()]);
-        Case { name, sheet, asked, changed, copy, steps: 0, best: [Duration::MAX; 5] }
+        Case { name, sheet, asked, changed, copy, steps: 0, best: [Duration::MAX; 6] }
     }
 
     fn run(&mut self, work: &mut [i32]) {
         let Case { sheet, asked, changed, copy, best, .. } = self;
-        assert_eq!(repeated(&mut best[0], || change(black_box(changed), *asked)), [0, 0]);
-        for (at, lent) in [(1, 0), (3, LENT)] {
+        let last = repeated(&mut best[0], || change(black_box(changed), *asked));
+        // the changes before the last one gave the same times, so that it may be taken back as often as it was made
+        assert_eq!(repeated(&mut best[1], || take_back(black_box(changed), last.change)), [0, 0]);
+        for (at, lent) in [(2, 0), (4, LENT)] {
             let work = &mut work[..lent];
             let expected = repeated(&mut best[at], || check(black_box(changed), black_box(work)));
             let answer =
@@ -78,11 +81,11 @@ impl Case {
 
     fn print(&self) {
         let (name, bytes, steps) = (&self.name, self.sheet.len(), self.steps);
-        let [change, reading, copied, check, preview] =
+        let [change, back, reading, copied, check, preview] =
             self.best.map(|time| time.as_secs_f64() * 1e6 / f64::from(CALLS));
-        let per_byte = change * 1e3 / bytes as f64;
-        print!("| {name} | {bytes} | {change:.2} | {per_byte:.1} | {reading:.2} | {copied:.2} ");
-        println!("| {steps} | {check:.2} | {preview:.2} |");
+        let [of_change, of_back] = [change, back].map(|time| time * 1e3 / bytes as f64);
+        print!("| {name} | {bytes} | {change:.2} | {of_change:.1} | {back:.2} | {of_back:.1} ");
+        println!("| {reading:.2} | {copied:.2} | {steps} | {check:.2} | {preview:.2} |");
     }
 }
 
@@ -93,7 +96,8 @@ fn main() {
     for _ in 0..RUNS {
         cases.iter_mut().for_each(|case| case.run(&mut work));
     }
-    println!("\n| sheet | bytes | change | nanoseconds/byte | check, no search | preview, no search | steps | check | preview |");
-    println!("|---|---|---|---|---|---|---|---|---|");
+    print!("\n| sheet | bytes | change | nanoseconds/byte | taken back | nanoseconds/byte ");
+    println!("| check, no search | preview, no search | steps | check | preview |");
+    println!("|---|---|---|---|---|---|---|---|---|---|---|");
     cases.iter().for_each(Case::print);
 }

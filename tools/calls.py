@@ -11,6 +11,9 @@ ROOT = os.path.dirname(os.path.dirname(os.path.realpath(__file__)))
 # the sheet B of document 01
 B = bytes.fromhex("010010 0000000A 00000064 00000002 00000003 030001 00 040001 00 060005 0002 0003 01 060005 0000 0000 00")
 
+# the modules of the command
+PARTS = ("sheet", "words", "fields", "given", "lookup", "follower", "times", "preview", "take_back", "programs", "usages")
+
 counts = {True: 0, False: 0}  # what held, and what did not
 
 
@@ -55,8 +58,8 @@ def text_of(*parts):
 
 
 def as_in_readme(verb, many):
-    """README's examples of a verb, so many, are followed by what they write."""
-    examples = re.findall(rf"^    \./zumbeiry ({verb} .*)\n\n((?:    .*\n)+)", text_of("README.md"), re.MULTILINE)
+    """README's examples of a verb, or of what begins like this pattern, so many, are followed by what they write."""
+    examples = re.findall(rf"^    \./zumbeiry ((?:{verb}) .*)\n\n((?:    .*\n)+)", text_of("README.md"), re.MULTILINE)
     expect(f"README.md has {many} examples of {verb}", len(examples) == many, examples)
     for command, shown in examples:
         call = Call(*command.split())
@@ -83,9 +86,9 @@ def copied(folder):
     for made in (("crates", "label", "src"), ("target", "bin"), ("tools",)):
         os.makedirs(os.path.join(copy, *made))
     shutil.copy(os.path.join(ROOT, "zumbeiry"), copy)
-    for name in ("sheet", "words", "fields", "given", "lookup", "follower", "preview", "programs", "usages"):
+    for name in PARTS:
         shutil.copy(os.path.join(ROOT, "tools", f"{name}.py"), os.path.join(copy, "tools"))
-    crates = "label:\nlabel_main: label io # a comment\nshelf_main: io\nrecord_main: io\npreview_main: io\n"
+    crates = "label:\nlabel_main: label io # a comment\nshelf_main: io\nrecord_main: io\nretime_main: io\n"
     in_folder(copy, "crates.txt", crates.encode())
     in_folder(copy, os.path.join("crates", "label", "src", "lib.rt"), b"")
     return copy

@@ -1,6 +1,6 @@
-//! What the corpora of lookups, of records and of new times have in common: entries of two files each,
-//! with the numbers that are due for them. lookup_corpus.rs, record_corpus.rs and retime_corpus.rs say
-//! what stands in an entry's front. Numbers have the high byte first:
+//! What the corpora of lookups, of records, of new times and of chains have in common: entries of two
+//! files each, with the numbers that are due for them. lookup_corpus.rs, record_corpus.rs, retime_corpus.rs
+//! and chain_corpus.rs say what stands in an entry's front. Numbers have the high byte first:
 //!
 //!     entries                       4 bytes
 //!     then for each entry
@@ -16,37 +16,42 @@ pub const WRONG: u8 = 1;
 
 /// The entry of one of the corpora.
 pub trait Entry: RefUnwindSafe + Sized {
-    /// The front's length, and where in it the numbers stand, and what is planted.
+    /// The front's length.
     const FRONT: usize;
-    const NUMBERS: Range<usize>;
-    const PLANTED: usize;
-    /// What else is planted in copies of entries that are not refused, and of refused ones, their
-    /// numbers being right.
-    const OTHERS: [&'static [u8]; 2];
 
     fn new(front: &[u8], files: [&[u8]; 2]) -> Self;
 
     /// The entry as it stands in the corpus.
     fn bytes(&self) -> Vec<u8>;
 
-    fn refusal(&self) -> usize;
-
     fn planted(&self) -> u8;
 
-    fn may_have_copy(&self) -> bool;
-
     fn is_answered(&self) -> bool;
+
+    /// Whether something that it states is wrong.
+    fn is_wrong(&self) -> bool {
+        self.planted() == WRONG
+    }
+}
+
+/// An entry whose numbers stand in its front.
+pub trait FrontEntry: Entry {
+    /// Where in the front the numbers stand, and what is planted.
+    const NUMBERS: Range<usize>;
+    const PLANTED: usize;
+    /// What else is planted in copies of entries that are not refused, and of refused ones, their
+    /// numbers being right.
+    const OTHERS: [&'static [u8]; 2];
+
+    fn refusal(&self) -> usize;
+
+    fn may_have_copy(&self) -> bool;
 
     /// A copy with one of the others planted, as it stands in the corpus; `_nth` is its place among them.
     fn with_other(&self, planted: u8, _nth: usize) -> Vec<u8> {
         let mut copy = self.bytes();
         copy[Self::PLANTED] = planted;
         copy
-    }
-
-    /// Whether something that it states is wrong.
-    fn is_wrong(&self) -> bool {
-        self.planted() == WRONG
     }
 }
 
@@ -102,7 +107,7 @@ pub fn corpus(entries: Vec<Vec<u8>>) -> Vec<u8> {
 /// The entries, some of them followed by a copy with something planted. Each byte of the numbers
 /// is wrong in one copy of an entry that is not refused, in its lowest bit, and in one of a refused
 /// entry, in its highest. The copies are spread evenly. None if there are too few entries.
-pub fn planted<E: Entry>(entries: &[E]) -> Option<Vec<u8>> {
+pub fn planted<E: FrontEntry>(entries: &[E]) -> Option<Vec<u8>> {
     let mut copies = BTreeMap::new();
     for ((accepted, bit), others) in [(true, 0x01), (false, 0x80)].into_iter().zip(E::OTHERS) {
         let fits = |entry: &E| entry.planted() == 0 && entry.may_have_copy() && (entry.refusal() == 0) == accepted;
@@ -119,12 +124,17 @@ pub fn planted<E: Entry>(entries: &[E]) -> Option<Vec<u8>> {
             }
         }
     }
+    Some(with_copies(entries, copies))
+}
+
+/// The entries, each followed by the copy that is given for its number, if one is.
+pub fn with_copies<E: Entry>(entries: &[E], mut copies: BTreeMap<usize, Vec<u8>>) -> Vec<u8> {
     let with_copy = |(at, entry): (usize, &E)| [Some(entry.bytes()), copies.remove(&at)];
-    Some(corpus(entries.iter().enumerate().flat_map(with_copy).flatten().collect()))
+    corpus(entries.iter().enumerate().flat_map(with_copy).flatten().collect())
 }
 
 /// A copy with this bit of this byte changed.
-fn with_wrong<E: Entry>(entry: &E, byte: usize, bit: u8) -> Vec<u8> {
+fn with_wrong<E: FrontEntry>(entry: &E, byte: usize, bit: u8) -> Vec<u8> {
     let mut copy = entry.bytes();
     copy[byte] ^= bit;
     copy[E::PLANTED] = WRONG;

@@ -1,7 +1,9 @@
-"""The files that a person names: their bytes, the sheet that a text tells, and other bytes for a file."""
+"""The files that a person names: their bytes, the sheet that a text tells, other bytes for a file, and its name for a shell."""
 
 import contextlib
 import os
+import re
+import shlex
 import stat
 import tempfile
 
@@ -62,7 +64,7 @@ class Given:
 def writable(given):
     """Tells it if the sheet that was given cannot get other bytes."""
     if given.name == "-":
-        raise CannotRun("--write is for a file: standard input, -, cannot be written")
+        raise CannotRun("standard input, -, cannot be written: name a file")
     if given.text:
         raise CannotRun(f"{given.name}: a sheet that is text is not written; change its lines")
     if not os.path.isfile(given.name):
@@ -92,3 +94,21 @@ def put(name, new):
     except BaseException:
         os.unlink(beside)
         raise
+
+
+def rewrite(given, new):
+    """Other bytes for the file of the sheet that was given, unless it no longer has those that were read."""
+    if read(given.name) != given.sheet:
+        raise CannotRun(f"{given.name}: the file has changed meanwhile, and is not written")
+    try:
+        put(given.name, new)
+    except OSError as error:
+        raise CannotRun(f"{given.name}: not written: {reason(error)}") from None
+
+
+def quoted(name):
+    """A file's name as a shell takes it, on one line whatever its bytes are."""
+    if name.isprintable():
+        return shlex.quote(name)
+    octal = re.sub(rb"[^\w./-]", lambda found: b"\\%03o" % found[0][0], os.fsencode(name))
+    return f"$'{octal.decode()}'"

@@ -17,7 +17,7 @@
 //! bytes first takes another byte for its first, another for its last, or the part one byte
 //! too short.
 
-use crate::entries::{corpus, four, hex, number, Entry, WRONG};
+use crate::entries::{corpus, four, hex, number, Entry, FrontEntry, WRONG};
 use crate::field::{BAD_LENGTH, OUT_OF_TURN, SHORT};
 use crate::lookup_cases::Case;
 use crate::{lookup, CUSTOMER, HOUSE, NO_SUCH_NAME};
@@ -36,10 +36,6 @@ pub struct Lookup {
 
 impl Entry for Lookup {
     const FRONT: usize = 20;
-    const NUMBERS: Range<usize> = 9..19;
-    const PLANTED: usize = 19;
-    /// Each change of the part twice.
-    const OTHERS: [&'static [u8]; 2] = [&[2, 3, 4, 2, 3, 4], &[]];
 
     fn new(front: &[u8], [customer, house]: [&[u8]; 2]) -> Lookup {
         let case = Case { name: front[0], customer: customer.to_vec(), house: house.to_vec() };
@@ -59,18 +55,8 @@ impl Entry for Lookup {
         bytes
     }
 
-    fn refusal(&self) -> usize {
-        self.numbers[0]
-    }
-
     fn planted(&self) -> u8 {
         self.planted
-    }
-
-    /// A part that is changed has two bytes or more.
-    fn may_have_copy(&self) -> bool {
-        let [refusal, _, _, size] = self.numbers;
-        self.case.customer.len().max(self.case.house.len()) < LONG && (refusal != 0 || size >= 2)
     }
 
     /// Whether the lookup gives these numbers and the very part that they state.
@@ -83,6 +69,23 @@ impl Entry for Lookup {
             _ => house.get(..0),
         };
         found.numbers() == self.numbers && stated.is_some_and(|part| ptr::eq(part, found.part))
+    }
+}
+
+impl FrontEntry for Lookup {
+    const NUMBERS: Range<usize> = 9..19;
+    const PLANTED: usize = 19;
+    /// Each change of the part twice.
+    const OTHERS: [&'static [u8]; 2] = [&[2, 3, 4, 2, 3, 4], &[]];
+
+    fn refusal(&self) -> usize {
+        self.numbers[0]
+    }
+
+    /// A part that is changed has two bytes or more.
+    fn may_have_copy(&self) -> bool {
+        let [refusal, _, _, size] = self.numbers;
+        self.case.customer.len().max(self.case.house.len()) < LONG && (refusal != 0 || size >= 2)
     }
 }
 

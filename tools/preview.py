@@ -1,17 +1,12 @@
-"""New times on one statement of a sheet: what the program answers, the same in words, and the file with the new times.
-
-As in words.py, a sheet's bytes are looked at only so far as to name a statement: whether it may have the new times, what the
-check then gives, and which bytes the changed sheet has, is for the proved program to say.
-"""
+"""New times on one statement of a sheet: what the program answers, the same in words, and the file with the new times."""
 
 import re
-import struct
 from typing import NamedTuple
 
 import words
-from fields import heads
-from given import put, read
-from programs import CannotRun, reason, run_on
+from given import rewrite
+from programs import run_on
+from times import NUMBER, OF_SHEET, Change, found, is_given, name_of, no_answer, span, statement_lines, there_lines, times_of
 
 # of new times, in the order in which they are tried, the number: its trade word, when it is given, what to do
 REFUSALS = {
@@ -32,14 +27,10 @@ REFUSALS = {
     ),
 }
 
-OF_SHEET = range(1, 10)
 OF_CHECK = (0, *range(words.FIRST_OF_SEARCH, words.LAST_OF_CHECK + 1))
 
-NUMBER = rb"(?:0|[1-9]\d{0,9})"
 FIVE = NUMBER + rb"(?: " + NUMBER + rb"){4}\n"
-
-MOST_DIGITS = 100  # of a number that the program is given: a longer one is far outside every range, and so are these
-SHOWN = 20  # of them in words
+MADE = re.compile(rb"0 0((?: " + NUMBER + rb"){6})\n")  # the line before a changed sheet
 
 
 class Asked(NamedTuple):
@@ -50,43 +41,17 @@ class Asked(NamedTuple):
     least: str
     greatest: str
 
+    @property
     def times(self):
-        return f"{shown(self.least)}..{shown(self.greatest)}"
-
-
-class Statement(NamedTuple):
-    """A statement where it stands, with its times."""
-
-    offset: int
-    least: int
-    greatest: int
-
-
-def shown(digits):
-    return digits if len(digits) <= SHOWN else digits[:SHOWN] + "..."
-
-
-def plain(digits):
-    return (digits.lstrip("0") or "0")[:MOST_DIGITS]
+        return span(self.least, self.greatest)
 
 
 def asked_of(thread, statement, times):
     """What the words behind SHEET ask for."""
-    for name, word in (("THREAD", thread), ("STATEMENT", statement)):
-        if not re.fullmatch("[0-9]+", word):
-            raise CannotRun(f"{name} is a number, 0 or more, not {word[:60]!r}")
-    found = re.fullmatch(r"([0-9]+)\.\.([0-9]+)", times)
-    if not found:
-        raise CannotRun(f"times are LEAST..GREATEST, two numbers as in 2..3, not {times[:60]!r}")
-    return Asked(*map(plain, (thread, statement, *found.groups())))
+    return Asked(*name_of(thread, statement), *times_of("times", times))
 
 
 # ---- what the program answers
-
-
-def no_answer(err):
-    told = err.decode(errors="replace").partition("\n")[0][:200]
-    return CannotRun("target/bin/preview_main gave no answer" + (told and f": {told}"))
 
 
 def fit(now, then):
@@ -109,45 +74,13 @@ def call(path, sheet, asked):
 # ---- in words
 
 
-def found(sheet, asked):
-    """The statement that is asked for, in a sheet that reads and has it."""
-    walk = words.Walk()
-    for at, tag, length in heads(sheet):
-        body = sheet[at + 3 : at + 3 + length]
-        walk.name(tag, body)
-        if tag == 6 and (str(walk.thread), str(walk.statements - 1)) == asked[:2] and len(body) >= 4:
-            return Statement(at, *struct.unpack(">HH", body[:4]))
-    raise CannotRun("target/bin/preview_main answered for a statement that the sheet does not have")
-
-
-def statement_lines(given, statement):
-    """Where the statement stands, in the sheet's text and in its bytes."""
-    at = words.Answer(0, statement.offset, 0, 0, 0)
-    return words.text_lines(at, given.text, given.places) + words.place_lines(at, given.sheet, words.Walk())
-
-
-def there_lines(sheet, asked):
-    """What there is, where a statement is asked for that is not."""
-    counts = []
-    for _, tag, _ in heads(sheet):
-        if tag == 4:
-            counts.append(0)
-        elif tag == 6 and counts:
-            counts[-1] += 1
-    thread = shown(asked.thread)
-    lines = [f"asked for: statement {shown(asked.statement)} of thread {thread}"]
-    if int(asked.thread) < len(counts):
-        return lines + [f"thread {thread} has {words.number(counts[int(asked.thread)], 'statement')}, from 0 on"]
-    return lines + [f"the sheet has {words.number(len(counts), 'thread')}, from 0 on"]
-
-
 def refused_lines(refusal, given, asked):
     """What stands in the way of the new times."""
     if refusal == 5:
         return there_lines(given.sheet, asked)
     if refusal == 4:
         statement = found(given.sheet, asked)
-        times = f"its times are {statement.least}..{statement.greatest}; asked for: {asked.times()}"
+        times = f"its times are {statement.times}; asked for: {asked.times}"
         return statement_lines(given, statement) + [times]
     return []
 
@@ -184,7 +117,7 @@ def explain(now, then, given, asked):
         is_then = words.refused(then.refusal, REFUSALS[then.refusal], refused_lines(then.refusal, given, asked))
         return ["now, " + is_now[0], *is_now[1:], "then, " + is_then[0], *is_then[1:]]
     statement = found(given.sheet, asked)
-    lines = [f"times {asked.times()} instead of {statement.least}..{statement.greatest}:"]
+    lines = [f"times {asked.times} instead of {statement.times}:"]
     lines += ["  " + line for line in statement_lines(given, statement)]
     is_then = words.explain(then, given.sheet, given.text, given.places)
     lines += ["now, " + is_now[0], *is_now[1:], "then, " + is_then[0], *is_then[1:]]
@@ -194,34 +127,22 @@ def explain(now, then, given, asked):
 # ---- the file
 
 
-def is_changed(sheet, new, asked):
-    """Whether a sheet has the new times, and no byte but their four is another."""
-    at = found(sheet, asked).offset + 3
-    if len(new) != len(sheet) or new[:at] + new[at + 4 :] != sheet[:at] + sheet[at + 4 :]:
-        return False
-    return tuple(map(str, struct.unpack(">HH", new[at : at + 4]))) == asked[2:]
-
-
 def changed(path, sheet, asked):
-    """The sheet with the new times, by the program at the path."""
+    """What the program at the path did to make the change, and the sheet with the new times."""
     out, err = run_on(path, sheet, *asked, "write")
-    line, new = out[:4], out[4:]
-    if line != b"0 0\n" or err or not is_changed(sheet, new, asked):
-        raise no_answer(err)
-    return new
+    line, statement = MADE.match(out), found(sheet, asked)
+    if line and not err:
+        change, new = Change(*line[1].decode().split()), out[line.end() :]
+        right = Change(asked.thread, asked.statement, statement.least, statement.greatest, asked.least, asked.greatest)
+        if change == right and is_given(sheet, new, statement, asked[2:]):
+            return change, new
+    raise no_answer(err)
 
 
-def write(path, given, asked, then):
-    """Puts the new times into the file, unless they were refused; says what was done."""
-    if then.refusal not in OF_CHECK:
-        return "nothing is written"
-    new = changed(path, given.sheet, asked)
+def write(given, new, then):
+    """Puts the sheet with the new times into the file; says what was done."""
     if new == given.sheet:
         return f"{given.name} has these times already: nothing is written"
-    if read(given.name) != given.sheet:
-        raise CannotRun(f"{given.name}: the file has changed meanwhile, and is not written")
-    try:
-        put(given.name, new)
-    except OSError as error:
-        raise CannotRun(f"{given.name}: not written: {reason(error)}") from None
-    return f"written: {given.name} has the new times" + ("" if then.refusal == 0 else "; the check now refuses it, as shown")
+    rewrite(given, new)
+    refused = "" if then.refusal == 0 else "; the check now refuses it, as shown"
+    return f"written: {given.name} has the new times{refused}"

@@ -14,6 +14,7 @@ def b_with(**header):
     return sheet_of("thread; 2..3 skip; halt", **header)
 
 
+SLOWER = B[:32] + b"\x00\x05" + B[34:]  # B with times 2..5
 C = sheet_of("thread; 1..4 skip; halt; thread; 2..3 skip; halt")
 E = sheet_of("thread; 1..1 lock l0; 1..1 lock l1; halt; thread; 1..1 lock l1; 1..1 lock l0; halt")
 F = sheet_of("thread; reg 0..9; 1..1 if r0 < 5 goto 2; 10..10 skip; halt", limit=11, label="0..11")

@@ -15,7 +15,7 @@
 //! Planted is 0, but for the entries that try whoever compares: with 1, one of the five numbers
 //! is wrong.
 
-use crate::entries::{corpus, four, hex, number, Entry};
+use crate::entries::{corpus, four, hex, number, Entry, FrontEntry};
 use crate::record_cases::Case;
 use crate::record_follow::{follow, RECORD, SHEET};
 use crate::record_runs::{seen, Seen};
@@ -36,9 +36,6 @@ pub struct Record {
 
 impl Entry for Record {
     const FRONT: usize = 20;
-    const NUMBERS: Range<usize> = 9..20;
-    const PLANTED: usize = 0;
-    const OTHERS: [&'static [u8]; 2] = [&[], &[]];
 
     fn new(front: &[u8], [sheet, record]: [&[u8]; 2]) -> Record {
         let case = Case { sheet: sheet.to_vec(), record: record.to_vec() };
@@ -59,20 +56,26 @@ impl Entry for Record {
         bytes
     }
 
-    fn refusal(&self) -> usize {
-        self.numbers[0]
-    }
-
     fn planted(&self) -> u8 {
         self.planted
     }
 
-    fn may_have_copy(&self) -> bool {
-        self.case.sheet.len() + self.case.record.len() < LONG
-    }
-
     fn is_answered(&self) -> bool {
         follow(&self.case.sheet, &self.case.record).numbers() == self.numbers
+    }
+}
+
+impl FrontEntry for Record {
+    const NUMBERS: Range<usize> = 9..20;
+    const PLANTED: usize = 0;
+    const OTHERS: [&'static [u8]; 2] = [&[], &[]];
+
+    fn refusal(&self) -> usize {
+        self.numbers[0]
+    }
+
+    fn may_have_copy(&self) -> bool {
+        self.case.sheet.len() + self.case.record.len() < LONG
     }
 }
 

@@ -1,6 +1,6 @@
-//! New times for one statement of a sheet (02, ticket 7): the change, and the preview of what the changed
-//! sheet gives. Written from the papers over oracle.rs, which reads and searches sheets; sentences
-//! in quotation marks are those of the papers.
+//! New times for one statement of a sheet (02, ticket 7): the change with what it did (02, ticket 8), and
+//! the preview of what the changed sheet gives. Written from the papers over oracle.rs, which reads and
+//! searches sheets; sentences in quotation marks are those of the papers.
 
 use crate::field::{Fault, HEADER};
 use crate::generator::fields;
@@ -15,7 +15,7 @@ pub const COPY_SHORT: u8 = 19;
 const THREAD_TAG: u8 = 4;
 /// "6 | a statement: least and greatest time (2 bytes each), code, operands"
 const STATEMENT_TAG: u8 = 6;
-const CODE: usize = HEADER + 4;
+pub const CODE: usize = HEADER + 4;
 pub const HALT: u8 = 0;
 const MOST: u64 = 65_535;
 
@@ -26,6 +26,29 @@ pub struct Asked {
     pub statement: u64,
     pub least: u64,
     pub greatest: u64,
+}
+
+/// "The change of ticket 7 now also returns the old and new times with thread and statement number"
+#[derive(Clone, Copy, PartialEq, Eq, PartialOrd, Ord, Default, Debug)]
+pub struct Change {
+    pub thread: u64,
+    pub statement: u64,
+    pub old_least: u64,
+    pub old_greatest: u64,
+    pub new_least: u64,
+    pub new_greatest: u64,
+}
+
+impl Change {
+    /// Thread, statement, old least and greatest, new least and greatest.
+    pub fn of([thread, statement, old_least, old_greatest, new_least, new_greatest]: [u64; 6]) -> Change {
+        Change { thread, statement, old_least, old_greatest, new_least, new_greatest }
+    }
+
+    pub fn numbers(self) -> [u64; 6] {
+        let Change { thread, statement, old_least, old_greatest, new_least, new_greatest } = self;
+        [thread, statement, old_least, old_greatest, new_least, new_greatest]
+    }
 }
 
 /// The places of the statements, thread by thread, as far as the fields go.
@@ -82,15 +105,31 @@ fn times_at(sheet: &[u8], copy: Option<usize>, asked: Asked) -> Result<usize, Fa
 }
 
 /// "The change writes the four time bytes in the sheet and no other byte." The high byte comes first.
-fn write_times(sheet: &mut [u8], at: usize, asked: Asked) {
+pub fn write_times(sheet: &mut [u8], at: usize, asked: Asked) {
     sheet[at..at + 2].copy_from_slice(&(asked.least as u16).to_be_bytes());
     sheet[at + 2..at + 4].copy_from_slice(&(asked.greatest as u16).to_be_bytes());
 }
 
-pub fn change(sheet: &mut [u8], asked: Asked) -> Result<(), Fault> {
+/// The times that stand here, least and greatest.
+pub fn times_shown(sheet: &[u8], at: usize) -> (u64, u64) {
+    let time = |at: usize| u64::from(u16::from_be_bytes([sheet[at], sheet[at + 1]]));
+    (time(at), time(at + 2))
+}
+
+pub fn change(sheet: &mut [u8], asked: Asked) -> Result<Change, Fault> {
     let at = times_at(sheet, None, asked)?;
+    let (old_least, old_greatest) = times_shown(sheet, at);
     write_times(sheet, at, asked);
-    Ok(())
+    let Asked { thread, statement, least: new_least, greatest: new_greatest } = asked;
+    Ok(Change { thread, statement, old_least, old_greatest, new_least, new_greatest })
+}
+
+/// Refusal and place, 0 and 0 where the change is made, and what it did, "zeros if refused".
+pub fn change_told(sheet: &mut [u8], asked: Asked) -> (Fault, Change) {
+    match change(sheet, asked) {
+        Ok(made) => (Fault { refusal: 0, place: 0 }, made),
+        Err(fault) => (fault, Change::default()),
+    }
 }
 
 /// "The preview answers exactly as changing a copy in one more lent buffer and running the search would".

@@ -22,7 +22,7 @@
 //! changes something right after the preview: the copy buffer's first byte, its last, the work
 //! buffer's first number, its last, the sheet's first byte, its last.
 
-use crate::entries::{corpus, four, hex, number, Entry, WRONG};
+use crate::entries::{corpus, four, hex, number, Entry, FrontEntry, WRONG};
 use crate::oracle::Answer;
 use crate::retime_change::{change, preview, Asked};
 use std::ops::Range;
@@ -53,9 +53,6 @@ pub struct Retime {
 
 impl Entry for Retime {
     const FRONT: usize = 69;
-    const NUMBERS: Range<usize> = 51..69;
-    const PLANTED: usize = 0;
-    const OTHERS: [&'static [u8]; 2] = [&[2, 2, 2, 2, 2, 2, 2, 3, 4, 5, 6, 7, 8], &[2, 2, 2, 3, 4, 5, 6, 7, 8]];
 
     fn new(front: &[u8], [sheet, otherwise]: [&[u8]; 2]) -> Retime {
         let [thread, statement, least, greatest] =
@@ -95,12 +92,27 @@ impl Entry for Retime {
         bytes
     }
 
-    fn refusal(&self) -> usize {
-        self.preview[0]
-    }
-
     fn planted(&self) -> u8 {
         self.planted
+    }
+
+    fn is_answered(&self) -> bool {
+        let Answered { preview, change, changed } = answered(&self.case);
+        preview == self.preview && change == self.change && changed == self.changed
+    }
+
+    fn is_wrong(&self) -> bool {
+        [WRONG, WRONG_SHEET].contains(&self.planted)
+    }
+}
+
+impl FrontEntry for Retime {
+    const NUMBERS: Range<usize> = 51..69;
+    const PLANTED: usize = 0;
+    const OTHERS: [&'static [u8]; 2] = [&[2, 2, 2, 2, 2, 2, 2, 3, 4, 5, 6, 7, 8], &[2, 2, 2, 3, 4, 5, 6, 7, 8]];
+
+    fn refusal(&self) -> usize {
+        self.preview[0]
     }
 
     /// Something can be changed in sheet and buffers, and a changed sheet has bytes before and behind
@@ -109,11 +121,6 @@ impl Entry for Retime {
         let Case { sheet, copy, work, .. } = &self.case;
         let changes = self.refusal() != 0 || !self.otherwise().is_empty();
         (2..LONG).contains(&sheet.len()) && *copy > 0 && *work > 0 && changes
-    }
-
-    fn is_answered(&self) -> bool {
-        let Answered { preview, change, changed } = answered(&self.case);
-        preview == self.preview && change == self.change && changed == self.changed
     }
 
     /// A wrong sheet is wrong by one bit, of a changed byte or of another, or lacks the change.
@@ -135,10 +142,6 @@ impl Entry for Retime {
             }
         }
         Retime { case: self.case.clone(), changed, planted, ..*self }.bytes()
-    }
-
-    fn is_wrong(&self) -> bool {
-        [WRONG, WRONG_SHEET].contains(&self.planted)
     }
 }
 
@@ -167,7 +170,7 @@ pub struct Answered {
 pub fn answered(case: &Case) -> Answered {
     let Answer { refusal, place, steps, low, high } = preview(&case.sheet, case.copy, case.work, case.asked);
     let mut changed = case.sheet.clone();
-    let change = change(&mut changed, case.asked).map_or_else(|fault| [fault.refusal.into(), fault.place], |()| [0, 0]);
+    let change = change(&mut changed, case.asked).map_or_else(|fault| [fault.refusal.into(), fault.place], |_| [0, 0]);
     Answered { preview: [refusal.into(), place, steps as usize, low as usize, high as usize], change, changed }
 }
 

@@ -1,6 +1,7 @@
 //! What stands in a corpus of new times.
 
 use crate::entries::WRONG;
+use crate::fault_pairs::pairs;
 use crate::oracle::check;
 use crate::retime_change::{code_at, may_have, place_of, HALT};
 use crate::retime_corpus::{Case, Retime};
@@ -47,25 +48,11 @@ pub fn histogram(all: &[Retime]) {
             [count(&|entry| entry.preview[0] == refusal), count(&|entry| entry.change[0] == refusal)];
         println!("| {refusal} | {preview} | {change} |");
     }
-    pairs(&entries);
+    pairs(FAULTS, &entries.iter().map(|entry| faults(entry)).collect::<Vec<_>>());
     let made = count(&|entry| entry.change[0] == 0);
     println!("changes made: {made}, {} with the same times", count(&|entry| entry.change[0] == 0 && entry.is_same()));
     turned(&entries);
     sizes(&entries);
-}
-
-/// In how many entries two faults stand together, and in how many one stands alone.
-fn pairs(entries: &[&Retime]) {
-    let all: Vec<[bool; 5]> = entries.iter().map(|entry| faults(entry)).collect();
-    println!("| fault | alone | with {} |\n|---|---|---|---|---|---|", FAULTS[1..].join(" | with "));
-    for (first, name) in FAULTS.iter().enumerate() {
-        let alone = all.iter().filter(|faults| faults[first] && faults.iter().filter(|&&is| is).count() == 1).count();
-        let with = |second: usize| match second > first {
-            true => all.iter().filter(|faults| faults[first] && faults[second]).count().to_string(),
-            false => String::new(),
-        };
-        println!("| {name} | {alone} | {} |", (1..FAULTS.len()).map(with).collect::<Vec<_>>().join(" | "));
-    }
 }
 
 /// What the search gives the sheet as it is, and the changed one.

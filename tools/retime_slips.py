@@ -16,7 +16,7 @@ from retime_text import (CHANGE, CHECK, COPY, FOUND, GREATEST, LEAST, NAMED, NUM
                          READS, REFUSE, REFUSED, STATEMENT, THREAD, THREADS, TIMES)
 from slips import Program
 
-MODULES = ("retimes", "retime_asked", "retime_cases", "retime_corpus", "retime_histogram", "retime_random", "retime_sheets", "record_sheets",
+MODULES = ("retimes", "retime_asked", "retime_back", "retime_cases", "retime_corpus", "retime_histogram", "retime_random", "retime_sheets", "record_sheets",
            "field", "sheet_parts", "sheet_reads", "command_line", "entries", "generator", "oracle", "random")
 RETIMES = Program("retimes", MODULES, "--edition", "2021", edited=("retime_change",))
 

@@ -23,7 +23,7 @@ fn lent(sheet: &[u8], copy: usize, work: usize, thread: u64, statement: u64, tim
 fn changed(sheet: &[u8], thread: u64, statement: u64, times: Times) -> ((u8, usize), Vec<u8>) {
     let mut after = sheet.to_vec();
     let told = change(&mut after, asked(thread, statement, times));
-    (told.map_or_else(|fault| (fault.refusal, fault.place), |()| (0, 0)), after)
+    (told.map_or_else(|fault| (fault.refusal, fault.place), |_| (0, 0)), after)
 }
 
 /// Neither is made, and both say so.

@@ -15,7 +15,8 @@ TIMES = "    if !code_at(sheet, place).is_some_and(|code| may_have(code, asked))
 FOUND = "    Ok(place + HEADER)\n"
 LEAST = "    sheet[at..at + 2].copy_from_slice(&(asked.least as u16).to_be_bytes());\n"
 GREATEST = "    sheet[at + 2..at + 4].copy_from_slice(&(asked.greatest as u16).to_be_bytes());\n"
-CHANGE = "pub fn change(sheet: &mut [u8], asked: Asked) -> Result<(), Fault> {\n    let at = times_at(sheet, None, asked)?;\n    write_times(sheet, at, asked);\n"
+CHANGE = ("pub fn change(sheet: &mut [u8], asked: Asked) -> Result<Change, Fault> {\n    let at = times_at(sheet, None, asked)?;\n"
+          "    let (old_least, old_greatest) = times_shown(sheet, at);\n    write_times(sheet, at, asked);\n")
 PREVIEW = "pub fn preview(sheet: &[u8], copy: usize, work: usize, asked: Asked) -> Answer {\n"
 CHECK = "            check(&changed, work)\n"
 REFUSED = "        Err(Fault { refusal, place }) => Answer { refusal, place, steps: 0, low: 0, high: 0 },\n"

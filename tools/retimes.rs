@@ -1,11 +1,14 @@
-//! Sets new times on one statement of a sheet, and previews what the changed sheet gives (02, ticket 7);
-//! makes and reads a corpus of such changes. Written from the papers, it shares no code with the
-//! library it is compared with.
+//! Sets new times on one statement of a sheet, previews what the changed sheet gives (02, ticket 7), and
+//! takes a change back (02, ticket 8); makes and reads a corpus of changes and previews. Written from the
+//! papers, it shares no code with the library it is compared with.
 //!
 //!     rustc --edition 2021 -O -o retimes retimes.rs     (rustc --edition 2021 --test for the tests)
 //!
 //!     retimes change SHEET THREAD STATEMENT LEAST GREATEST [OUT]
-//!                                         refusal and place; if none is given the changed sheet goes to OUT
+//!                                         refusal and place, then thread, statement, old and new times;
+//!                                         if nothing is refused the changed sheet goes to OUT
+//!     retimes take-back SHEET THREAD STATEMENT OLD_LEAST OLD_GREATEST NEW_LEAST NEW_GREATEST [OUT]
+//!                                         refusal and place of a change taken back, by its numbers
 //!     retimes preview SHEET THREAD STATEMENT LEAST GREATEST [COPY WORK]
 //!                                         the five numbers of the changed sheet, with a copy buffer of
 //!                                         COPY bytes (16384) and a work buffer of WORK numbers (12000)
@@ -15,13 +18,14 @@
 //!     retimes list FILE                   each entry as text: what is asked, its numbers, the sheet
 //!     retimes corpus FILE                 the entries that are answered otherwise
 //!
-//! retime_change.rs has the change and the preview, retime_corpus.rs describes the corpus, retime_cases.rs
-//! has the cases; field.rs, sheet_parts.rs, sheet_reads.rs, entries.rs and command_line.rs have what
-//! serves other programs too. oracle.rs reads and searches sheets, generator.rs serves for random
-//! sheets.
+//! retime_change.rs has the change and the preview, retime_back.rs the taking back (chains.rs makes its
+//! corpus); retime_corpus.rs describes the corpus, retime_cases.rs has the cases; field.rs, sheet_parts.rs,
+//! sheet_reads.rs, entries.rs and command_line.rs have what serves other programs too. oracle.rs reads and
+//! searches sheets, generator.rs serves for random sheets.
 
 mod command_line;
 mod entries;
+mod fault_pairs;
 #[allow(dead_code)]
 mod field;
 #[allow(dead_code)]
@@ -31,6 +35,7 @@ mod oracle;
 #[allow(dead_code)]
 mod record_sheets;
 mod retime_asked;
+mod retime_back;
 mod retime_cases;
 mod retime_change;
 mod retime_corpus;
@@ -43,7 +48,9 @@ mod sheet_parts;
 mod sheet_reads;
 
 use command_line::{contents, fail, parsed, write};
-use retime_change::{change, preview, Asked};
+use field::Fault;
+use retime_back::take_back;
+use retime_change::{change_told, preview, Asked, Change};
 use retime_corpus::Retime;
 use std::{env, fs};
 
@@ -61,20 +68,32 @@ fn asked(numbers: &[&str; 4]) -> Asked {
     Asked { thread, statement, least, greatest }
 }
 
-/// Prints refusal and place; the changed sheet goes to a file, if one is named.
-fn change_file(file: &str, numbers: &[&str; 4], out: Option<&str>) {
-    let mut sheet = contents(file);
-    if let Err(fault) = change(&mut sheet, asked(numbers)) {
-        println!("{} {}", fault.refusal, fault.place);
-        return;
-    }
-    if let Some(out) = out {
+/// Where nothing is refused the sheet goes to a file, if one is named.
+fn write_sheet(refusal: u8, sheet: &[u8], out: Option<&str>) {
+    if let Some(out) = out.filter(|_| refusal == 0) {
         fs::write(out, sheet).unwrap_or_else(|error| fail(&format!("{out}: {error}")));
     }
-    println!("0 0");
+}
+
+/// Prints refusal and place, and what the change did.
+fn change_file(file: &str, numbers: &[&str; 4], out: Option<&str>) {
+    let mut sheet = contents(file);
+    let (Fault { refusal, place }, made) = change_told(&mut sheet, asked(numbers));
+    write_sheet(refusal, &sheet, out);
+    println!("{refusal} {place} {}", made.numbers().map(|number| number.to_string()).join(" "));
+}
+
+/// Prints refusal and place.
+fn take_back_file(file: &str, numbers: &[&str; 6], out: Option<&str>) {
+    let mut sheet = contents(file);
+    let told = take_back(&mut sheet, Change::of(numbers.map(parsed)));
+    let Fault { refusal, place } = told.err().unwrap_or(Fault { refusal: 0, place: 0 });
+    write_sheet(refusal, &sheet, out);
+    println!("{refusal} {place}");
 }
 
 const USAGE: &str = "usage: retimes change SHEET THREAD STATEMENT LEAST GREATEST [OUT] | \
+    take-back SHEET THREAD STATEMENT OLD_LEAST OLD_GREATEST NEW_LEAST NEW_GREATEST [OUT] | \
     preview SHEET THREAD STATEMENT LEAST GREATEST [COPY WORK] | make SEED COUNT | \
     plant, histogram, list or corpus FILE";
 
@@ -84,6 +103,8 @@ fn main() {
     match arguments[..] {
         ["change", sheet, a, b, c, d] => change_file(sheet, &[a, b, c, d], None),
         ["change", sheet, a, b, c, d, out] => change_file(sheet, &[a, b, c, d], Some(out)),
+        ["take-back", sheet, a, b, c, d, e, f] => take_back_file(sheet, &[a, b, c, d, e, f], None),
+        ["take-back", sheet, a, b, c, d, e, f, out] => take_back_file(sheet, &[a, b, c, d, e, f], Some(out)),
         ["preview", sheet, a, b, c, d] => {
             println!("{}", preview(&contents(sheet), COPY, WORK, asked(&[a, b, c, d])));
         }

@@ -1,4 +1,4 @@
-//! Sheets made of their parts, and sheets that do not read. A module of records.rs and retimes.rs.
+//! Sheets made of their parts, and sheets that do not read. A module of records.rs, retimes.rs and chains.rs.
 
 use crate::field::field;
 

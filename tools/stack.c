@@ -1,7 +1,8 @@
 /*
- * The stack that a call of zumbeiry_check, zumbeiry_change_times and zumbeiry_preview uses: with each sheet of a corpus each is made on
- * a painted stack, and the deepest byte that changed is found. The new times are those that the sheet's first statement has, so that
- * the preview gives the numbers of the check, and the change leaves the sheet as it is.
+ * The stack that a call of zumbeiry_check, zumbeiry_change_times, zumbeiry_take_back and zumbeiry_preview uses: with each sheet of a
+ * corpus each is made on a painted stack, and the deepest byte that changed is found. The new times, and the old ones, are those that
+ * the sheet's first statement has, so that the preview gives the numbers of the check, and the change and its taking back leave the
+ * sheet as it is.
  *
  *     stack CORPUS     corpus.rs describes the file
  */
@@ -21,7 +22,7 @@ static unsigned char stack[STACK] __attribute__((aligned(4096)));
 static uint8_t *sheet, copy[65536];
 static size_t sheet_length, work_length, least, greatest, depth;
 static int32_t work[65536];
-static uint64_t answer[5];
+static uint64_t answer[8];
 
 static void check(void)
 {
@@ -30,7 +31,12 @@ static void check(void)
 
 static void change(void)
 {
-    zumbeiry_change_times(sheet, sheet_length, 0, 0, least, greatest, answer, 2);
+    zumbeiry_change_times(sheet, sheet_length, 0, 0, least, greatest, answer, 8);
+}
+
+static void take_back(void)
+{
+    zumbeiry_take_back(sheet, sheet_length, 0, 0, least, greatest, least, greatest, answer, 2);
 }
 
 static void preview(void)
@@ -47,8 +53,10 @@ struct measured {
 static struct measured all[] = {
     {"zumbeiry_check", check, 0, 0},
     {"zumbeiry_change_times", change, 0, 0},
+    {"zumbeiry_take_back", take_back, 0, 0},
     {"zumbeiry_preview", preview, 0, 0},
 };
+static struct measured *const all_end = all + sizeof all / sizeof *all;
 
 /* The call comes from here, so that what lies below this frame is the call's. */
 static __attribute__((noinline)) void *painted(void *measured)
@@ -97,12 +105,12 @@ static void take_times(void)
     greatest = there ? number(sheet + at + 5, 2) : 0;
 }
 
-/* Whether the answer is what the entry says; of the change, whose search is left out, 0 for a sheet that reads. */
+/* Whether the answer is what the entry says; of the change and its taking back, which do not search, 0 for a sheet that reads. */
 static int expected(const struct measured *measured, const uint8_t *entry)
 {
     if (entry[19] == WRONG)
         return 1;
-    if (measured->call == change)
+    if (measured->call == change || measured->call == take_back)
         return answer[0] == (entry[4] <= 9 ? entry[4] : 0);
     return answer[0] == entry[4] && answer[2] == number(entry + 7, 4);
 }
@@ -113,7 +121,7 @@ static void measure(uint8_t *entry, size_t index)
     work_length = number(entry + 2, 2);
     sheet = entry + FRONT;
     take_times();
-    for (struct measured *measured = all; measured < all + 3; measured++) {
+    for (struct measured *measured = all; measured < all_end; measured++) {
         run_painted(measured);
         if (!expected(measured, entry)) {
             fprintf(stderr, "stack: %s answers entry %zu otherwise\n", measured->name, index);
@@ -139,7 +147,7 @@ int main(int count, char **arguments)
     for (size_t at = 4; at + FRONT <= length; at += FRONT + sheet_length)
         measure(corpus + at, entries++);
     printf("%zu sheets\n", entries);
-    for (struct measured *measured = all; measured < all + 3; measured++)
+    for (struct measured *measured = all; measured < all_end; measured++)
         printf("%s: at most %zu bytes of stack, on entry %zu\n", measured->name, measured->most, measured->entry);
     return 0;
 }

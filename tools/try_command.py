@@ -1,7 +1,8 @@
 #!/usr/bin/env python3
 """Tries ./zumbeiry check: on every sheet of sheets/, as text and as bytes, and on inputs that are broken on purpose. Then
 building, by try_building.py, ./zumbeiry find, by try_find.py, tools/shelf_file.py, by try_shelf_file.py, ./zumbeiry follow, by
-try_follow.py, and ./zumbeiry preview, by try_preview.py and try_written.py.
+try_follow.py, ./zumbeiry preview, by try_preview.py and try_written.py, and ./zumbeiry take-back, by try_take_back.py and
+try_chains.py.
 
     python3 tools/try_command.py
 
@@ -20,11 +21,14 @@ import follower
 import lookup
 import preview
 import sheet
+import take_back
 import try_building
+import try_chains
 import try_find
 import try_follow
 import try_preview
 import try_shelf_file
+import try_take_back
 import try_written
 import words
 from calls import B, Call, ROOT, cannot, copied, counts, expect, in_folder, text_of
@@ -193,10 +197,9 @@ def try_usage(folder):
 def try_readme():
     text = text_of("README.md")
     rows = re.findall(r"^\| (\d+) (.+) \| (.+) \| (.+) \|$", text, re.MULTILINE)
-    tables = {"check": words.REFUSALS, "find": lookup.REFUSALS, "follow": follower.REFUSALS, "preview": preview.REFUSALS}
-    for verb, refusals in tables.items():
-        table = [(str(number), *row) for number, row in refusals.items()]
-        expect(f"README's table of refusals is that of {verb}", [row for row in rows if row in table] == table, rows)
+    for module in (words, lookup, follower, preview, take_back):
+        table = [(str(number), *row) for number, row in module.REFUSALS.items()]
+        expect(f"README has the table of {module.__name__}", [row for row in rows if row in table] == table, rows)
     sums = re.findall(r"^\| (\d) \| (\d+) \| ([\d,]+) \|$", text, re.MULTILINE)
     right = [words.enough(int(threads), int(limit)) == int(budget.replace(",", "")) for threads, limit, budget in sums]
     expect("README's table of budgets is the command's", len(right) == 8 and all(right), sums)
@@ -222,6 +225,8 @@ def main():
         try_follow.try_all(folder, copy)
         try_preview.try_all(folder, copy)
         try_written.try_all(folder, copy)
+        try_take_back.try_all(folder, copy)
+        try_chains.try_all(folder)
     print(f"{counts[True]} passed, {counts[False]} failed")
     return 1 if counts[False] else 0
 

@@ -7,11 +7,17 @@ import subprocess
 
 import preview
 from calls import B, Call, ROOT, as_in_readme, cannot, expect, in_folder, stand_in, text_of
-from preview_cases import ACCEPTED, CHANGED, REFUSED, UNREAD
+from preview_cases import ACCEPTED, CHANGED, REFUSED, SLOWER, UNREAD
+from times import OF_SHEET
 
 TEXT = b"limit 10\nbudget 100\nlabel 2..3\nlocks 0\nthread\n2..3 skip\nhalt\n"
-SLOWER = B[:32] + b"\x00\x05" + B[34:]  # B with times 2..5
 ASKED = ("0", "0", "2..5")
+
+# of the program, which takes changes back too
+USAGE = (
+    b"usage: retime_main SHEET THREAD STATEMENT LEAST GREATEST [write], "
+    b"or SHEET THREAD STATEMENT OLD_LEAST OLD_GREATEST NEW_LEAST NEW_GREATEST, numbers in decimal\n"
+)
 
 
 def ask(folder, *arguments, **other):
@@ -32,7 +38,7 @@ def alone(folder, asked, now, then, status):
 
 def try_sheets(folder):
     expect("every refusal of new times but 19", {row[4] for row in REFUSED} == set(preview.REFUSALS) - {19})
-    expect("every refusal of a sheet", {int(five.split()[0]) for _, five in UNREAD} == set(preview.OF_SHEET))
+    expect("every refusal of a sheet", {int(five.split()[0]) for _, five in UNREAD} == set(OF_SHEET))
     for sheet, statement, times, now, then, *said in CHANGED:
         in_folder(folder, "sheet", sheet)
         asked, status = (*statement.split(), times), 0 if then.startswith("0 ") else 1
@@ -66,38 +72,42 @@ def try_forms(folder):
     cannot(ask(folder), "zumbeiry: sheet: line 1: a number expected")
 
 
+def program_gives(folder, arguments, out, err):
+    """What the program itself writes, called in the folder."""
+    ended = subprocess.run([os.path.join(ROOT, "target", "bin", "retime_main"), *arguments], cwd=folder, capture_output=True)
+    what = " ".join(arguments)[:80]
+    expect(f"retime_main {what}", (ended.stdout, ended.stderr) == (out, err), ended)
+
+
 def try_program(folder):
     """The program itself, which is given a path: what stands between it and an answer is told on standard error alone."""
     in_folder(folder, "sheet", B)
     not_numbers = ("x 0 2 5", "0 -1 2 5", "0 0 +2 5", "0 0 2 5.", "0 0 2 0x5", "0 0 2: 5", "/ 0 2 5")
-    usage = b"usage: preview_main SHEET THREAD STATEMENT LEAST GREATEST [write], four numbers in decimal\n"
     two = b"0 0 2 2 3\n15 0 2 2 5\n"
     for arguments, out, err in (
         ("sheet 0 0 2 5", two, b""),
         ("sheet 00 000 0002 05", two, b""),
         (f"sheet {'0' * 4096} 0 2 5", two, b""),
         (f"sheet 0 0 2 {'9' * 4096}", b"0 0 2 2 3\n4 0 0 0 0\n", b""),
-        ("sheet 0 0 2 5 write", b"0 0\n" + SLOWER, b""),
-        ("sheet 0 0 2 3 write", b"0 0\n" + B, b""),
-        ("sheet 0 0 2 65536 write", b"4 0\n", b""),
-        ("sheet 0 2 0 0 write", b"5 0\n", b""),
-        ("/dev/null 0 0 2 5 write", b"1 0\n", b""),
-        ("/dev/zero 0 0 2 5 write", b"9 0\n", b""),
+        ("sheet 0 0 2 5 write", b"0 0 0 0 2 3 2 5\n" + SLOWER, b""),
+        ("sheet 00 0 02 3 write", b"0 0 0 0 2 3 2 3\n" + B, b""),
+        ("sheet 0 1 0 0 write", b"0 0 0 1 0 0 0 0\n" + B, b""),
+        ("sheet 0 0 2 65536 write", b"4 0 0 0 0 0 0 0\n", b""),
+        ("sheet 0 2 0 0 write", b"5 0 0 0 0 0 0 0\n", b""),
+        ("/dev/null 0 0 2 5 write", b"1 0 0 0 0 0 0 0\n", b""),
+        ("/dev/zero 0 0 2 5 write", b"9 0 0 0 0 0 0 0\n", b""),
         ("/dev/zero 0 0 2 5", b"9 0 0 0 0\n" * 2, b""),
-        ("", b"", usage),
-        ("sheet 0 0 2", b"", usage),
-        ("sheet 0 0 2 5 write write", b"", usage),
-        *((f"sheet 0 0 2 5 {word}", b"", usage) for word in ("wrote", "Write", "writ", "writes", "0")),
-        *((f"sheet {words}", b"", usage) for words in not_numbers),
-        (f"sheet 0 0 2 {'9' * 4097}", b"", usage),
+        ("", b"", USAGE),
+        ("sheet 0 0 2", b"", USAGE),
+        ("sheet 0 0 2 5 write write", b"", USAGE),
+        *((f"sheet 0 0 2 5 {word}", b"", USAGE) for word in ("wrote", "Write", "writ", "writes", "0")),
+        *((f"sheet {words}", b"", USAGE) for words in not_numbers),
+        (f"sheet 0 0 2 {'9' * 4097}", b"", USAGE),
         ("absent 0 0 2 5", b"", b"absent: No such file or directory\n"),
         (". 0 0 2 5", b"", b"SHEET: Is a directory\n"),
     ):
-        command = [os.path.join(ROOT, "target", "bin", "preview_main"), *arguments.split()]
-        ended = subprocess.run(command, cwd=folder, capture_output=True)
-        expect(f"preview_main {arguments[:80]}", (ended.stdout, ended.stderr) == (out, err), ended)
-    ended = subprocess.run([*command[:1], "sheet", "0", "", "2", "5"], cwd=folder, capture_output=True)
-    expect("preview_main with an empty number", (ended.stdout, ended.stderr) == (b"", usage), ended)
+        program_gives(folder, arguments.split(), out, err)
+    program_gives(folder, ["sheet", "0", "", "2", "5"], b"", USAGE)
 
 
 def try_usage(folder):
@@ -159,10 +169,10 @@ def try_answers(folder, copy):
     in_folder(folder, "sheet", B)
 
     def call(script, *arguments):
-        stand_in(os.path.join(copy, "target", "bin", "preview_main"), script)
+        stand_in(os.path.join(copy, "target", "bin", "retime_main"), script)
         return ask(folder, *arguments, root=copy, TMPDIR=temporary)
 
-    cannot(ask(folder, root=copy, PATH=folder), "preview_main has to be built, and there is no rt")
+    cannot(ask(folder, root=copy, PATH=folder), "retime_main has to be built, and there is no rt")
     answers(call("echo 13 0 7 0 0; echo 0 0 2 2 3\n"), "13 0 7 0 0", ACCEPTED, "there is a window, 2..3", status=0)
     given_to = '[ "$#" = 5 ] && cmp "$1" sheet && [ "$2 $3 $4 $5" = "0 0 2 5" ] && echo 0 0 2 2 3 && echo 0 0 2 2 3\n'
     answers(call(given_to, "sheet", "00", "0", "2..005"), ACCEPTED, ACCEPTED, "the window stays 2..3", status=0)
@@ -171,13 +181,13 @@ def try_answers(folder, copy):
     answers(call("echo 0 0 2 2 3; echo 5 0 0 0 0\n"), ACCEPTED, "5 0 0 0 0", "thread 0 has 2 statements, from 0 on\n")
     answers(call("echo 9 7 0 0 0; echo 9 7 0 0 0\n"), "9 7 0 0 0", "9 7 0 0 0", "refused, 9 too long")
     for script in NO_ANSWERS:
-        cannot(call(script), "target/bin/preview_main gave no answer")
+        cannot(call(script), "target/bin/retime_main gave no answer")
     absent = "answered for a statement that the sheet does not have"
     cannot(call("echo 0 0 2 2 3; echo 0 0 2 2 3\n", "sheet", "0", "2", "2..5"), absent)
     cannot(call("echo 0 0 2 2 3; echo 4 0 0 0 0\n", "sheet", "1", "0", "2..5"), absent)
     cannot(call("echo SHEET: not there >&2\n"), "gave no answer: SHEET: not there\n")
-    cannot(call("echo 0 0 2 2 3; echo 0 0 2 2 3; exit 3\n"), "target/bin/preview_main ended with status 3")
-    cannot(call("echo 0 0 2 2 3; echo 0 0 2 2 3; kill -9 $$\n"), "target/bin/preview_main was ended by signal 9")
+    cannot(call("echo 0 0 2 2 3; echo 0 0 2 2 3; exit 3\n"), "target/bin/retime_main ended with status 3")
+    cannot(call("echo 0 0 2 2 3; echo 0 0 2 2 3; kill -9 $$\n"), "target/bin/retime_main was ended by signal 9")
     in_folder(folder, "sheet", b"\x04\x00\x01\x00\x06\x00\x02\x00\x02")
     cannot(call("echo 0 0 2 2 3; echo 0 0 2 2 3\n"), absent)
     expect("no temporary file is left over", os.listdir(temporary) == [], os.listdir(temporary))
@@ -188,6 +198,6 @@ def try_all(folder, copy):
     try_forms(folder)
     try_program(folder)
     try_usage(folder)
-    as_in_readme("preview", 2)
+    as_in_readme("preview sheets/B.txt", 2)
     try_examples()
     try_answers(folder, copy)

@@ -7,6 +7,8 @@ VERBS = """usage: ./zumbeiry VERB ..
   follow SHEET RECORD    is what the machine recorded a run of the sheet, and did the label hold?
   preview SHEET THREAD STATEMENT LEAST..GREATEST
                          what would the check give, had that statement these times?
+  take-back SHEET THREAD STATEMENT OLD_LEAST..OLD_GREATEST NEW_LEAST..NEW_GREATEST
+                         the old times again, instead of the new ones that preview --write gave
 
 ./zumbeiry VERB --help says more."""
 
@@ -66,11 +68,26 @@ high), what the check of SHEET gives now and what it would give, and the same in
 statements of each, count from 0; the times are two numbers of ticks, as in 2..3.
 SHEET is bytes or text, as for check; - is standard input.
 
-  --numbers    the two lines of five numbers alone
+  --numbers    the two lines of five numbers alone; with --write also the words that take-back is given
   --text       SHEET is text
   --bytes      SHEET is bytes
   --write      then writes the new times into SHEET, four bytes of it, unless they are refused; also where
-               the check would then refuse the sheet. SHEET is a file of bytes: a text is not written
+               the check would then refuse the sheet. SHEET is a file of bytes: a text is not written.
+               Where the change is made the last line tells how it is taken back: the command, or with
+               --numbers what stands behind SHEET in it
 
 Ends with 0 if the label may stay with the new times, 1 if the sheet, the times or the changed sheet is
 refused, 2 if a file could not be read or written or there is no answer."""
+
+TAKE_BACK = """usage: ./zumbeiry take-back [--numbers] SHEET THREAD STATEMENT OLD_LEAST..OLD_GREATEST NEW_LEAST..NEW_GREATEST
+
+Takes a change of times back: if the statement shows the new times, the old ones go into SHEET again, four
+bytes of it. Where nothing else was written in SHEET since, it then has the very bytes that it had before.
+The words behind SHEET are those that preview --write printed. Several changes are taken back last first.
+Prints two numbers (refusal, place) and the same in words. Where it is refused nothing is written.
+SHEET is a file of bytes: neither a text nor standard input is written.
+
+  --numbers    the line of two numbers alone
+
+Ends with 0 if the change is taken back, 1 if it is refused, 2 if the file could not be read or written or
+there is no answer."""

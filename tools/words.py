@@ -52,6 +52,11 @@ REFUSALS = {
         "a result may leave the 32-bit values (the number may be too large for the board)",
         "narrow the ranges, or test the registers first, with < in an if of its own",
     ),
+    18: (
+        "changed since",
+        "a statement no longer shows the times that a change gave it (take-back alone gives this)",
+        "see what take-back says",
+    ),
     19: ("output full", "a lent buffer is too short for what goes into it (preview alone gives this)", "see what preview says"),
     21: ("not a run", "what the machine recorded is not a run of the sheet (follow alone gives this)", "see what follow says"),
 }

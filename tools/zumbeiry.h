@@ -1,8 +1,8 @@
 /*
- * The library's five calls. `rt staticlib label` writes target/staticlib/liblabel.a, with zumbeiry_check, `rt staticlib shelf`
+ * The library's six calls. `rt staticlib label` writes target/staticlib/liblabel.a, with zumbeiry_check, `rt staticlib shelf`
  * writes target/staticlib/libshelf.a, with zumbeiry_find, `rt staticlib record` target/staticlib/librecord.a, with zumbeiry_follow,
- * and `rt staticlib retime` target/staticlib/libretime.a, with zumbeiry_change_times and zumbeiry_preview (x86-64). A program links
- * the archive of the call that it makes.
+ * and `rt staticlib retime` target/staticlib/libretime.a, with zumbeiry_change_times, zumbeiry_take_back and zumbeiry_preview
+ * (x86-64). A program links the archive of the call that it makes.
  */
 #ifndef ZUMBEIRY_H
 #define ZUMBEIRY_H
@@ -108,19 +108,25 @@ uint32_t zumbeiry_follow(const uint8_t *sheet, size_t sheet_length,
  * Sets new times on one statement of a sheet, named by its thread and by its number in the thread, both from 0: the four bytes of
  * its least and greatest time are written, and no other byte of the sheet.
  *
- * Two numbers go to answer[0] and answer[1], in this order:
+ * Eight numbers go to answer[0] to answer[7], in this order:
  *
  *     refusal   0: the change is made; 1 to 9: the sheet does not read, as in zumbeiry_check; of a sheet that reads, 5: no such
  *               statement; else 4: times that the statement may not have (halt takes 0 and 0; any other a least of 1 or more,
  *               and a greatest from that up to 65,535)
  *     place     of a sheet that does not read as in zumbeiry_check, else 0
  *
+ * and what the change did, which zumbeiry_take_back is called with; zeros where it is refused:
+ *
+ *     thread, statement             as they were given
+ *     old least, old greatest       the times that the statement had
+ *     new least, new greatest       those that it has now
+ *
  * Where it is refused, the sheet is as it was. A 5 with place 0 is always that of the statement; a 4 with place 0 may be that of
  * the sheet's first field, which zumbeiry_check then gives too.
  *
  * It is proved that the changed sheet reads, as the same program with those times.
  *
- * An array of fewer than two numbers is left as it is, and the numbers after the second too; the change is made all the same. The
+ * An array of fewer than eight numbers is left as it is, and the numbers after the eighth too; the change is made all the same. The
  * refusal is returned.
  *
  * The sheet may have any length, thread, statement and times any value. Nothing is allocated or kept between calls: threads may
@@ -133,6 +139,39 @@ uint32_t zumbeiry_change_times(uint8_t *sheet, size_t sheet_length,
                                size_t thread, size_t statement,
                                uint64_t least, uint64_t greatest,
                                uint64_t *answer, size_t answer_length);
+
+/*
+ * Takes back a change of times, given by the last six numbers of zumbeiry_change_times: if the statement shows the new times, the
+ * old ones are written into its four time bytes, and no other byte of the sheet.
+ *
+ * Two numbers go to answer[0] and answer[1], in this order:
+ *
+ *     refusal   0: the change is taken back; 1 to 9: the sheet does not read, as in zumbeiry_check; of a sheet that reads, 5: no
+ *               such statement; else 4: old times that the statement may not have; else 18: it does not show the new times, it
+ *               was changed since
+ *     place     of a sheet that does not read as in zumbeiry_check, else 0
+ *
+ * Where it is refused, the sheet is as it was. Of a 5 and a 4 with place 0 the same holds as for zumbeiry_change_times. The new
+ * times are only compared with those in the sheet.
+ *
+ * It is proved that, where nothing else was written in the sheet since the change, it has again the very bytes before it, and that
+ * several changes with nothing else written between, taken back last first, restore the first sheet, also when two name one
+ * statement.
+ *
+ * An array of fewer than two numbers is left as it is, and the numbers after the second too; the change is taken back all the same.
+ * The refusal is returned.
+ *
+ * The sheet may have any length, thread, statement and times any value. Nothing is allocated or kept between calls: threads may
+ * call at the same time, each with its own sheet and answer. A call needs stack: docs/PERFORMANCE.md has the size.
+ *
+ * The caller sees to it that each pointer has that many writable numbers, aligned for their type and not null even where the
+ * length is 0, and that the answer does not overlap the sheet.
+ */
+uint32_t zumbeiry_take_back(uint8_t *sheet, size_t sheet_length,
+                            size_t thread, size_t statement,
+                            uint64_t old_least, uint64_t old_greatest,
+                            uint64_t new_least, uint64_t new_greatest,
+                            uint64_t *answer, size_t answer_length);
 
 /*
  * Says what zumbeiry_check would answer if a statement had new times: a copy of the sheet is changed as by zumbeiry_change_times and

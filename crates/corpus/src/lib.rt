@@ -1,6 +1,6 @@
 // What is shared by the programs that compare the library with a corpus: numbers in bytes, counting, reading and printing.
 ghost use mathlib.Core.Path.{_≡_};
-ghost use mathlib.Core.Bool.{true, cond, _&&_};
+ghost use mathlib.Core.Bool.{true, false, cond, _&&_};
 ghost use Prim.Native.Nat.{_+_, _*_, _<_, _≤_};
 ghost use lib.Dec.{ltb};
 ghost use lib.IntN.{pos};
@@ -100,6 +100,41 @@ pub fn zeros(work: &[i32]) -> bool
     ensures { λ r. ⌜ (now (work .entry) ≡ replicate (length (now (work .entry))) (pos 0) → r ≡ true) ⌝ }
 {
     all_numbers(work, 0)
+}
+
+// Whether two rows of bytes are the same.
+pub fn same_bytes(a: &[u8], b: &[u8]) -> bool
+    ensures { λ r. ⌜ (r ≡ true → now (a .entry) ≡ now (b .entry)) ⌝ }
+    ensures { λ r. ⌜ (now (a .entry) ≡ now (b .entry) → r ≡ true) ⌝ }
+{
+    if a.len() != b.len() {
+        return false;
+    }
+    let mut i: usize = 0;
+    while i < a.len() {
+        if a[i] != b[i] {
+            return false;
+        }
+        i += 1;
+    }
+    true
+}
+
+// Copies bytes into a buffer of the same length; false, and nothing copied, where the lengths differ.
+pub fn copy_bytes(from: &[u8], to: &mut [u8]) -> bool
+    ensures { λ r. ⌜ (r ≡ true → now (to .exit) ≡ now (from .entry)) ⌝ }
+    ensures { λ r. ⌜ (length (now (from .entry)) ≡ length (now (to .entry)) → r ≡ true) ⌝ }
+    ensures { λ r. ⌜ (r ≡ false → now (to .exit) ≡ now (to .entry)) ⌝ }
+{
+    if from.len() != to.len() {
+        return false;
+    }
+    let mut i: usize = 0;
+    while i < from.len() {
+        to[i] = from[i];
+        i += 1;
+    }
+    true
 }
 
 // Reads the next n bytes of standard input to the front of the buffer; false where there are fewer, or where the buffer is shorter.

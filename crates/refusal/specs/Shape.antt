@@ -1,7 +1,7 @@
 -- The code's refusals and those of the rules: one for each of the other.
 use Rattle.rules.specs.Refusal as R
 use Rattle.refusal.specs.declared.Refusal.{Refusal}
-use Rattle.refusal.specs.declared.Refusal.the-variants.{Short, OutOfTurn, BadLength, OffRange, NoSuchName, BadExpression, NoHalt, TooMany, TooLong, NoReading, Stuck, PastLimit, OutOfSteps, OutOfRoom, LabelBroken, OffScale, OutputFull, NotRun}
+use Rattle.refusal.specs.declared.Refusal.the-variants.{Short, OutOfTurn, BadLength, OffRange, NoSuchName, BadExpression, NoHalt, TooMany, TooLong, NoReading, Stuck, PastLimit, OutOfSteps, OutOfRoom, LabelBroken, OffScale, ChangedSince, OutputFull, NotRun}
 
 -- from the rules to the code: what a function that refuses must give
 abbrev pub refusalOf : R.Refusal → Refusal
@@ -21,6 +21,7 @@ refusalOf R.outOfSteps = OutOfSteps
 refusalOf R.outOfRoom = OutOfRoom
 refusalOf R.labelBroken = LabelBroken
 refusalOf R.offScale = OffScale
+refusalOf R.changedSince = ChangedSince
 refusalOf R.outputFull = OutputFull
 refusalOf R.notRun = NotRun
 
@@ -42,5 +43,6 @@ ruleOf OutOfSteps = R.outOfSteps
 ruleOf OutOfRoom = R.outOfRoom
 ruleOf LabelBroken = R.labelBroken
 ruleOf OffScale = R.offScale
+ruleOf ChangedSince = R.changedSince
 ruleOf OutputFull = R.outputFull
 ruleOf NotRun = R.notRun

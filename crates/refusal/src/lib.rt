@@ -20,6 +20,7 @@ pub enum Refusal {
     OutOfRoom,
     LabelBroken,
     OffScale,
+    ChangedSince,
     OutputFull,
     NotRun,
 }
@@ -45,6 +46,7 @@ pub fn number_of(r: Refusal) -> u32
         Refusal::OutOfRoom => 14,
         Refusal::LabelBroken => 15,
         Refusal::OffScale => 16,
+        Refusal::ChangedSince => 18,
         Refusal::OutputFull => 19,
         Refusal::NotRun => 21,
     }

@@ -9,8 +9,8 @@ use lib.ListN.{length}
 use Rattle.rules.specs.Constants.{greatestTime}
 use Rattle.rules.specs.Refusal as R
 use Rattle.rules.specs.Refusal.{number, noSuchName, offRange}
-use Rattle.rules.specs.Program.{Program}
-use Rattle.rules.specs.Format.{Bytes, bad, got, timesFit, readSheet}
+use Rattle.rules.specs.Program.{Statement, Program}
+use Rattle.rules.specs.Format.{Bytes, Got, bad, got, timesFit, readSheet}
 use Rattle.rules.specs.Encoding.{codeOf}
 use Rattle.rules.proofs.Format.{times-in-order}
 use Rattle.rules.proofs.IfAt.{need-yes, need-no, then-got, then-bad, is-true}
@@ -18,38 +18,46 @@ use Rattle.reader.specs.Facts.{statementIn}
 use Rattle.reader.proofs.Facts.{program-facts, statement-in}
 use Rattle.retime.specs.declared.find.Found.{Found}
 use Rattle.retime.specs.declared.change.Changed as C
-use Rattle.retime.specs.Retime.{retimed, isStatement, mayHave, changeTimes, changed, change}
+use Rattle.retime.specs.Retime.{retimed, isStatement, mayHave, onStatement, did, fromTo, noChange, Done, changeTimes, changed, change}
 use Rattle.retime.specs.Shape.{mayBy, changedAs, changedOf}
 use Rattle.retime.proofs.Retime.{thread-there, statement-there, may-times, may-small}
 use Rattle.retime.proofs.Finding.{FoundThere}
 
--- ---- the rule, case by case
+-- ---- the statement that is named, case by case
 
-module _ (s : Bytes) (t k l h : ℕ) where
-  pub times-unread : {r : R.Refusal} {p : ℕ} → readSheet s ≡ bad r p → changeTimes s t k l h ≡ bad r p
-  unfolding changeTimes
-  times-unread e = then-bad _ e
+module _ {A : Type 0} (s : Bytes) (t k : ℕ) (then : Statement → ℕ → Got A) where
+  pub sheet-unread : {r : R.Refusal} {p : ℕ} → readSheet s ≡ bad r p → onStatement s t k then ≡ bad r p
+  unfolding onStatement
+  sheet-unread e = then-bad _ e
 
   module _ (g : Program) (e : ℕ) (r : readSheet s ≡ got g e) where
-    pub times-absent : isStatement g t k ≡ false → changeTimes s t k l h ≡ bad noSuchName 0
-    unfolding changeTimes
-    times-absent n = then-got _ r ∙ need-no (isStatement g t k) _ _ _ n
+    pub statement-absent : isStatement g t k ≡ false → onStatement s t k then ≡ bad noSuchName 0
+    unfolding onStatement
+    statement-absent n = then-got _ r ∙ need-no (isStatement g t k) _ _ _ n
 
-    module _ (i : T (isStatement g t k)) where
-      pub times-off : mayHave (statementIn g t k) l h ≡ false → changeTimes s t k l h ≡ bad offRange 0
-      unfolding changeTimes
-      times-off m = then-got _ r ∙ need-yes (isStatement g t k) _ _ _ i ∙ need-no (mayHave (statementIn g t k) l h) _ _ _ m
+    pub statement-named : T (isStatement g t k) → onStatement s t k then ≡ then (statementIn g t k) e
+    unfolding onStatement
+    statement-named i = then-got _ r ∙ need-yes (isStatement g t k) _ _ _ i
 
-      pub times-made : T (mayHave (statementIn g t k) l h) → changeTimes s t k l h ≡ got (retimed s (statementIn g t k .place) l h) e
-      unfolding changeTimes
-      times-made m = then-got _ r ∙ need-yes (isStatement g t k) _ _ _ i ∙ need-yes (mayHave (statementIn g t k) l h) _ _ _ m
+-- ---- the change
+
+module _ (s : Bytes) (t k l h : ℕ) where
+  module _ (g : Program) (e : ℕ) (r : readSheet s ≡ got g e) (i : T (isStatement g t k)) where
+    pub times-off : mayHave (statementIn g t k) l h ≡ false → changeTimes s t k l h ≡ bad offRange 0
+    times-off m = statement-named s t k _ g e r i ∙ need-no (mayHave (statementIn g t k) l h) _ _ _ m
+
+    pub times-made : T (mayHave (statementIn g t k) l h)
+        → changeTimes s t k l h ≡ got (record { sheet = retimed s (statementIn g t k .place) l h; change = did t k (statementIn g t k) l h }) e
+    times-made m = statement-named s t k _ g e r i ∙ need-yes (mayHave (statementIn g t k) l h) _ _ _ m
 
   -- the answer that the rule's outcome is
-  pub change-refused : {r : R.Refusal} {p : ℕ} → changeTimes s t k l h ≡ bad r p → change s t k l h ≡ record { refusal = number r; place = p; sheet = s }
+  pub change-refused : {r : R.Refusal} {p : ℕ} → changeTimes s t k l h ≡ bad r p
+      → change s t k l h ≡ record { refusal = number r; place = p; change = noChange; sheet = s }
   unfolding change changed
   change-refused e = ap (changed s) e
 
-  pub change-made : {new : Bytes} {e : ℕ} → changeTimes s t k l h ≡ got new e → change s t k l h ≡ record { refusal = 0; place = 0; sheet = new }
+  pub change-made : {d : Done} {e : ℕ} → changeTimes s t k l h ≡ got d e
+      → change s t k l h ≡ record { refusal = 0; place = 0; change = d .change; sheet = d .sheet }
   unfolding change changed
   change-made e = ap (changed s) e
 
@@ -97,11 +105,11 @@ module _ (c l h : ℕ) where
 -- ---- what the code finds, tests and gives
 
 module _ {s : Bytes} {t k : ℕ} {f : Found} (w : FoundThere s t k f) (l h : ℕ) where
-  may-of : mayHave (statementIn (w .program) t k) l h ≡ mayBy (f .code) l h
+  pub may-of : mayHave (statementIn (w .program) t k) l h ≡ mayBy (f .code) l h
   unfolding mayHave
   may-of = ap (λ (y : Found). mayBy (y .code) l h) (sym (w .same))
 
-  place-of : statementIn (w .program) t k .place ≡ f .place
+  pub place-of : statementIn (w .program) t k .place ≡ f .place
   place-of = ap (λ (y : Found). y .place) (sym (w .same))
 
   -- the code writes where there is room, numbers that two bytes hold
@@ -112,16 +120,19 @@ module _ {s : Bytes} {t k : ℕ} {f : Found} (w : FoundThere s t k f) (l h : ℕ
       let room : f .place + 7 ≤ length s = omega (arith, statement-room s t k g (w .end) (w .reads) (w .there), place-of) in
       (room, least-small s t k g (w .end) (w .reads) (w .there) l h a, greatest-small s t k g (w .end) (w .reads) (w .there) l h a)
 
-  pub found-made : mayBy (f .code) l h ≡ true → {c : C.Changed} {new : Bytes} → new ≡ retimed s (f .place) l h → c ≡ changedAs 0 0 → changedOf c new ≡ change s t k l h
+  pub found-made : mayBy (f .code) l h ≡ true → {c : C.Changed} {new : Bytes} → new ≡ retimed s (f .place) l h
+      → c ≡ changedAs 0 0 (fromTo t k (f .least) (f .greatest) l h) → changedOf c new ≡ change s t k l h
   found-made m a b =
       let g = w .program in
       let made = times-made s t k l h g (w .end) (w .reads) (w .there) (is-true (mayHave (statementIn g t k) l h) (may-of ∙ m)) in
-      (λ i. changedOf (b i) ((a ∙ ap (λ (p : ℕ). retimed s p l h) (sym place-of)) i)) ∙ sym (change-made s t k l h made)
+      (λ i. changedOf (b i) (a i))
+      ∙ ap (λ (x : Found). changedOf (changedAs 0 0 (fromTo t k (x .least) (x .greatest) l h)) (retimed s (x .place) l h)) (w .same)
+      ∙ sym (change-made s t k l h made)
 
   pub found-off : mayBy (f .code) l h ≡ false → changeTimes s t k l h ≡ bad offRange 0
   found-off m = times-off s t k l h (w .program) (w .end) (w .reads) (w .there) (may-of ∙ m)
 
--- refused: the number and its place, and the sheet as it was
-pub given-refused : (s : Bytes) (t k l h : ℕ) {r : R.Refusal} {p n : ℕ} {c : C.Changed} → changeTimes s t k l h ≡ bad r p → n ≡ number r → c ≡ changedAs n p
+-- refused: the number and its place, zeros, and the sheet as it was
+pub given-refused : (s : Bytes) (t k l h : ℕ) {r : R.Refusal} {p n : ℕ} {c : C.Changed} → changeTimes s t k l h ≡ bad r p → n ≡ number r → c ≡ changedAs n p noChange
     → changedOf c s ≡ change s t k l h
-given-refused s t k l h {p = p} e m b = (λ i. changedOf (b i) s) ∙ (λ i. changedOf (changedAs (m i) p) s) ∙ sym (change-refused s t k l h e)
+given-refused s t k l h {p = p} e m b = (λ i. changedOf (b i) s) ∙ (λ i. changedOf (changedAs (m i) p noChange) s) ∙ sym (change-refused s t k l h e)

@@ -13,7 +13,7 @@ use Rattle.rules.specs.Format.{Bytes, AreBytes, got, readSheet}
 use Rattle.reader.specs.Facts.{threadIn, statementIn}
 use Rattle.reader.specs.declared.Index.{Index}
 use Rattle.reader.specs.Index.{noEntry, indexOf}
-use Rattle.reader.proofs.Facts.{accepted, program-facts, thread-in, index-facts, place-head}
+use Rattle.reader.proofs.Facts.{accepted, program-facts, thread-in, statement-in, index-facts, place-head}
 use Rattle.retime.specs.declared.find.Found.{Found}
 use Rattle.retime.specs.Retime.{isStatement}
 use Rattle.retime.specs.Shape.{noneFound, foundOf, foundAt, foundIn, Finds}
@@ -57,8 +57,10 @@ module _ (s : Bytes) {i : Index} (q : i ≡ indexOf (readSheet s)) (t k : ℕ) w
           let a = known g e r in let b = counted g e r in
           let x = index-facts g e q r in
           let y = statementIn g t k in
+          let d = statement-in (program-facts s g e r) t a k b .decoded in
           rw (lt-ltb t (length (g .threads)) a, lt-ltb k (length (threadIn g t .statements)) b)
-          (w ∙ (λ j. foundAt s (x .places t k a b j)) ∙ ap (λ (c : ℕ). record { there = true; place = y .place; code = c }) (code-at s o g e t k r a b))
+          (w ∙ (λ j. foundAt s (x .places t k a b j))
+          ∙ (λ j. record { there = true; place = y .place; code = code-at s o g e t k r a b j; least = d j .least .0; greatest = d j .greatest .0 }))
 
       module _ (z : i .refusal ≡ 0) where
         pub found-head : getD (i .places) (t * mostStatements + k) 0 + 8 ≤ length s

@@ -15,7 +15,7 @@ use Rattle.rules.proofs.IfAt.{need-yes, need-no, then-got, then-bad}
 use Rattle.label.specs.declared.Answer.{Answer}
 use Rattle.label.specs.Shape.{answerOf, fiveOf}
 use Rattle.retime.specs.declared.change.Changed as C
-use Rattle.retime.specs.Retime.{Changed, changeTimes, changed, change, checked, previewAnswer}
+use Rattle.retime.specs.Retime.{Done, Changed, changeTimes, changed, change, checked, previewAnswer}
 use Rattle.retime.specs.Shape.{changedOf}
 
 -- ---- the rule, case by case
@@ -40,15 +40,15 @@ as-refused q {p = p} e n b = ap answerOf b ∙ (λ i. five (n i) p 0 0 0) ∙ sy
 
 -- ---- the check of the changed copy, by what the change gave
 
-changed-good : (s : Bytes) (G : Got Bytes) {x : Changed} → x ≡ changed s G → x .refusal ≡ 0 → (n : ℕ) → answer (x .sheet) n ≡ checked n G
+changed-good : (s : Bytes) (G : Got Done) {x : Changed} → x ≡ changed s G → x .refusal ≡ 0 → (n : ℕ) → answer (x .sheet) n ≡ checked n G
 unfolding changed checked
 changed-good s (bad r p) h z n = absurd (positive r (ap (λ (y : Changed). y .refusal) (sym h) ∙ z))
-changed-good s (got new e) h z n = ap (λ (y : Changed). answer (y .sheet) n) h
+changed-good s (got d e) h z n = ap (λ (y : Changed). answer (y .sheet) n) h
 
-changed-bad : (s : Bytes) (G : Got Bytes) {x : Changed} → x ≡ changed s G → (x .refusal ≡ 0 → ⊥) → (n : ℕ) → five (x .refusal) (x .place) 0 0 0 ≡ checked n G
+changed-bad : (s : Bytes) (G : Got Done) {x : Changed} → x ≡ changed s G → (x .refusal ≡ 0 → ⊥) → (n : ℕ) → five (x .refusal) (x .place) 0 0 0 ≡ checked n G
 unfolding changed checked
 changed-bad s (bad r p) h z n = λ i. five (h i .refusal) (h i .place) 0 0 0
-changed-bad s (got new e) h z n = absurd (z (ap (λ (y : Changed). y .refusal) h))
+changed-bad s (got d e) h z n = absurd (z (ap (λ (y : Changed). y .refusal) h))
 
 module _ (s : Bytes) (t k l h : ℕ) {c : C.Changed} {new : Bytes} (b : changedOf c new ≡ change s t k l h) (n : ℕ) {a : Answer} where
   pub checks-changed : c .refusal ≡ 0 → answerOf a ≡ answer new n → answerOf a ≡ checked n (changeTimes s t k l h)

@@ -1,12 +1,12 @@
--- The four time bytes: the times that are written are shown, and no other byte is written.
-use mathlib.Core.Path.{_≡_, refl, ap, _∙_}
-use mathlib.Core.Bool.{Bool}
+-- The four time bytes: the times that are written are shown and cover those before, and no other byte is written.
+use mathlib.Core.Path.{_≡_, refl, sym, ap, _∙_}
+use mathlib.Core.Bool.{Bool, true, false}
 use Prim.Native.Nat.{ℕ, _+_, _/_, _%_, _≤_, _<_}
 use native.Mathlib.Decide.{ℕ-discrete}
 use native.Mathlib.Omega.{arith}
 use lib.Dec.{eqb}
 use lib.ListN.{length, set, length-set}
-use lib.Seq.{getD-set-same, getD-set-other}
+use lib.Seq.{getD-set-same, getD-set-other, ext-getD}
 use borrow.Author.Tests.{eq-eqb, ne-eqb}
 use Rattle.rules.specs.Base.{if_then_else_}
 use Rattle.rules.specs.Format.{Bytes, AreBytes, byte, num16}
@@ -38,6 +38,26 @@ retimed-byte s p l g j h =
     let nb : length b ≡ length a = length-set a (p + 4) (l % 256) in
     let nc : length c ≡ length b = length-set b (p + 5) (g / 256) in
     rw (byte-set c (p + 6) j (g % 256) (omega arith), byte-set b (p + 5) j (g / 256) (omega arith), byte-set a (p + 4) j (l % 256) (omega arith), byte-set s (p + 3) j (l / 256) h)
+
+chosen-twice : (a b c d : Bool) (l g m h x : ℕ) → chosen a b c d m h (chosen a b c d l g x) ≡ chosen a b c d m h x
+unfolding chosen
+chosen-twice a b c true l g m h x = refl
+chosen-twice a b true false l g m h x = refl
+chosen-twice a true false false l g m h x = refl
+chosen-twice true false false false l g m h x = refl
+chosen-twice false false false false l g m h x = refl
+
+-- later times cover earlier ones
+pub retimed-twice : (s : Bytes) (p l g m h : ℕ) → retimed (retimed s p l g) p m h ≡ retimed s p m h
+retimed-twice s p l g m h =
+    let once = retimed s p l g in
+    let n : length once ≡ length s = retimed-length s p l g in
+    let a : length (retimed once p m h) ≡ length once = retimed-length once p m h in
+    let b : length (retimed s p m h) ≡ length s = retimed-length s p m h in
+    ext-getD 0 (retimed once p m h) (retimed s p m h) (omega arith) (λ j k.
+    let x = eqb j (p + 3) in let y = eqb j (p + 4) in let z = eqb j (p + 5) in let w = eqb j (p + 6) in
+    retimed-byte once p m h j (omega arith) ∙ ap (chosen x y z w m h) (retimed-byte s p l g j (omega arith))
+    ∙ chosen-twice x y z w l g m h (byte s j) ∙ sym (retimed-byte s p m h j (omega arith)))
 
 -- no other byte
 pub retimed-other : (s : Bytes) (p l g j : ℕ) → (p + 3 ≤ j → p + 7 ≤ j) → byte (retimed s p l g) j ≡ byte s j

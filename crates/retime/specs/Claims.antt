@@ -11,7 +11,7 @@ use Rattle.rules.specs.Format.{Bytes, AreBytes, bad, got, byte, num16, readShee
 use Rattle.rules.specs.Search.{Answer, five, answer}
 use Rattle.rules.specs.Demands.{WindowInside, OfSearch, HoldsOfSheet}
 use Rattle.reader.specs.Facts.{statementIn}
-use Rattle.retime.specs.Retime.{retimed, isStatement, mayHave, change, retime, previewAnswer}
+use Rattle.retime.specs.Retime.{retimed, isStatement, mayHave, did, noChange, change, retime, previewAnswer}
 use Rattle.retime.specs.Worked.{rows, Holds}
 
 -- a sheet that was changed reads as the same program with those times
@@ -28,7 +28,8 @@ pub record HoldsRetimed (s : Bytes) (t k least greatest : ℕ) (shown : Answer) 
 -- ---- a sheet that reads as g, and a change that is not refused: s becomes new, p is the statement's place
 
 pub record Made (s new : Bytes) (g : Program) (e t k least greatest p : ℕ) : Type 0 where
-  pub answered : change s t k least greatest ≡ record { refusal = 0; place = 0; sheet = new }
+  -- "the old and new times with thread and statement number" (ticket 8)
+  pub answered : change s t k least greatest ≡ record { refusal = 0; place = 0; change = did t k (statementIn g t k) least greatest; sheet = new }
   pub reads : readSheet new ≡ got (retime g t k least greatest) e
   -- "The change writes the four time bytes in the sheet and no other byte."
   pub four-inside : p + 7 ≤ length s
@@ -45,14 +46,14 @@ pub record Made (s new : Bytes) (g : Program) (e t k least greatest p : ℕ) : T
 
 -- ---- one that is refused
 
--- the change answers r at place 0 and leaves the sheet; the preview answers the same, where its copy buffer has room
+-- the change answers r at place 0, with zeros, and leaves the sheet; the preview answers the same, where its copy buffer has room
 pub record Refused (s : Bytes) (t k least greatest : ℕ) (r : Refusal) : Type 0 where
-  pub answered : change s t k least greatest ≡ record { refusal = number r; place = 0; sheet = s }
+  pub answered : change s t k least greatest ≡ record { refusal = number r; place = 0; change = noChange; sheet = s }
   pub previewed : (m n : ℕ) → length s ≤ m → previewAnswer s m n t k least greatest ≡ five (number r) 0 0 0 0
 
 -- of a sheet that does not read, whatever else is wrong
 pub record Unread (s : Bytes) (t k least greatest : ℕ) (r : Refusal) (p : ℕ) : Type 0 where
-  pub answered : change s t k least greatest ≡ record { refusal = number r; place = p; sheet = s }
+  pub answered : change s t k least greatest ≡ record { refusal = number r; place = p; change = noChange; sheet = s }
   pub previewed : (m n : ℕ) → previewAnswer s m n t k least greatest ≡ five (number r) p 0 0 0
   pub of-reader : (1 ≤ number r) × (number r ≤ 9)
 
@@ -75,7 +76,8 @@ pub record RetimeClaims : Type 0 where
       → Made s (retimed s (statementIn g t k .place) least greatest) g e t k least greatest (statementIn g t k .place)
   -- the times that a statement has may be given it again, and the sheet stays the same
   pub same-again : (s : Bytes) → AreBytes s → (t k : ℕ) (g : Program) (e : ℕ) → readSheet s ≡ got g e → T (isStatement g t k)
-      → change s t k (statementIn g t k .least) (statementIn g t k .greatest) ≡ record { refusal = 0; place = 0; sheet = s }
+      → change s t k (statementIn g t k .least) (statementIn g t k .greatest)
+      ≡ record { refusal = 0; place = 0; change = did t k (statementIn g t k) (statementIn g t k .least) (statementIn g t k .greatest); sheet = s }
   -- an accepted preview
   pub accepted-holds : (s : Bytes) (m n t k least greatest : ℕ) → previewAnswer s m n t k least greatest .refusal ≡ 0
       → HoldsRetimed s t k least greatest (previewAnswer s m n t k least greatest)

@@ -1,4 +1,4 @@
--- New times on one statement, and the check's answer with them (02, ticket 7).
+-- New times on one statement, and the check's answer with them (02, ticket 7); what the change returns (ticket 8).
 use mathlib.Core.Bool.{Bool, _&&_}
 use mathlib.Core.List.{List}
 use Prim.Native.Nat.{ℕ, _+_, _/_, _%_}
@@ -28,25 +28,55 @@ isStatement g t k = ltb t (length (g .threads)) && ltb k (length (threadIn g t .
 unfoldable pub mayHave : Statement → ℕ → ℕ → Bool
 mayHave x least greatest = timesFit (codeOf (x .action)) least greatest && leb greatest greatestTime
 
--- "Refused: the sheet's own number from 1 to 9, [..] then 5 for no such statement, then 4 for times that statement may not have,
--- these [..] with place 0". Otherwise the changed sheet
-unfoldable pub changeTimes : Bytes → ℕ → ℕ → ℕ → ℕ → Got Bytes
+-- "Refused: the sheet's own number from 1 to 9, [..] then 5 for no such statement, [..] with place 0". Otherwise what follows for the
+-- statement, and for where the reading ended
+unfoldable pub onStatement : {A : Type 0} → Bytes → ℕ → ℕ → (Statement → ℕ → Got A) → Got A
+onStatement s t k then = andThen (readSheet s) (λ g e. need (isStatement g t k) noSuchName 0 (then (statementIn g t k) e))
+
+-- what a change did: "the old and new times with thread and statement number" (ticket 8)
+pub record Change : Type 0 where
+  pub thread : ℕ
+  pub statement : ℕ
+  pub oldLeast : ℕ
+  pub oldGreatest : ℕ
+  pub newLeast : ℕ
+  pub newGreatest : ℕ
+
+-- statement k of thread t, from times a, b to times c, d
+abbrev pub fromTo : ℕ → ℕ → ℕ → ℕ → ℕ → ℕ → Change
+fromTo t k a b c d = record { thread = t; statement = k; oldLeast = a; oldGreatest = b; newLeast = c; newGreatest = d }
+
+-- the statement having been x
+abbrev pub did : ℕ → ℕ → Statement → ℕ → ℕ → Change
+did t k x least greatest = fromTo t k (x .least) (x .greatest) least greatest
+
+-- "(zeros if refused)"
+abbrev pub noChange : Change
+noChange = fromTo 0 0 0 0 0 0
+
+-- a sheet that was changed, and what the change did
+pub record Done : Type 0 where
+  pub sheet : Bytes
+  pub change : Change
+
+-- "then 4 for times that statement may not have, [..] with place 0". Otherwise the changed sheet, and what was done
+abbrev pub changeTimes : Bytes → ℕ → ℕ → ℕ → ℕ → Got Done
 changeTimes s t k least greatest =
-    andThen (readSheet s) (λ g e.
-    need (isStatement g t k) noSuchName 0 (
-    need (mayHave (statementIn g t k) least greatest) offRange 0 (
-    got (retimed s (statementIn g t k .place) least greatest) e)))
+    onStatement s t k (λ x e.
+    need (mayHave x least greatest) offRange 0 (
+    got (record { sheet = retimed s (x .place) least greatest; change = did t k x least greatest }) e))
 
 -- the answer of the call, 0 and 0 where the change is made, and what the sheet holds afterwards
 pub record Changed : Type 0 where
   pub refusal : ℕ
   pub place : ℕ
+  pub change : Change
   pub sheet : Bytes
 
 -- refused, "the sheet unchanged"
-unfoldable pub changed : Bytes → Got Bytes → Changed
-changed s (bad r p) = record { refusal = number r; place = p; sheet = s }
-changed s (got new e) = record { refusal = 0; place = 0; sheet = new }
+unfoldable pub changed : Bytes → Got Done → Changed
+changed s (bad r p) = record { refusal = number r; place = p; change = noChange; sheet = s }
+changed s (got d e) = record { refusal = 0; place = 0; change = d .change; sheet = d .sheet }
 
 unfoldable pub change : Bytes → ℕ → ℕ → ℕ → ℕ → Changed
 change s t k least greatest = changed s (changeTimes s t k least greatest)
@@ -70,9 +100,9 @@ retime g t k least greatest = edited g t k (withTimes least greatest (statementI
 
 -- "exactly as changing a copy [..] and running the search would, whether the search accepts or refuses": with n numbers lent. What stands
 -- in the way of the change has "steps 0", and low and high 0
-unfoldable pub checked : ℕ → Got Bytes → Answer
+unfoldable pub checked : ℕ → Got Done → Answer
 checked n (bad r p) = five (number r) p 0 0 0
-checked n (got new e) = answer new n
+checked n (got d e) = answer (d .sheet) n
 
 -- "the sheet's own number from 1 to 9, then 19 for a short copy buffer [..], then 5 [..], then 4 [..], these three with place 0": the copy
 -- buffer has m bytes

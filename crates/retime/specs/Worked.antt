@@ -12,7 +12,7 @@ use Rattle.rules.specs.Sheets.{header, locks, variable, thread, register, halt,
 use Rattle.rules.specs.Worked.{A, B, B-with, C, E, F}
 use Rattle.rules.specs.Edges.{routine, with-register, minus-1, lowest}
 use Rattle.rules.specs.Runs.{divides}
-use Rattle.retime.specs.Retime.{change, previewAnswer, Previewed, preview}
+use Rattle.retime.specs.Retime.{fromTo, noChange, change, previewAnswer, Previewed, preview}
 
 -- new times on a statement: thread and number, least and greatest
 pub record Asked : Type 0 where
@@ -22,8 +22,8 @@ pub record Asked : Type 0 where
   pub greatest : ℕ
 
 pub data Fact : Type 0 where
-  -- a sheet becomes another
-  becomes : Bytes → Asked → Bytes → Fact
+  -- a sheet in which the statement has these times, least and greatest, becomes another
+  becomes : Bytes → Asked → ℕ → ℕ → Bytes → Fact
   -- the change is refused at a place
   refused : Bytes → Asked → Refusal → ℕ → Fact
   -- a sheet, with a copy buffer and a work buffer of these lengths, gives five numbers
@@ -32,8 +32,11 @@ pub data Fact : Type 0 where
   leaves : Bytes → Bytes → List ℤ → Asked → Previewed → Fact
 
 abbrev pub Holds : Fact → Type 0
-Holds (becomes s a new) = change s (a .thread) (a .statement) (a .least) (a .greatest) ≡ record { refusal = 0; place = 0; sheet = new }
-Holds (refused s a r p) = change s (a .thread) (a .statement) (a .least) (a .greatest) ≡ record { refusal = number r; place = p; sheet = s }
+Holds (becomes s a least greatest new) =
+    change s (a .thread) (a .statement) (a .least) (a .greatest)
+    ≡ record { refusal = 0; place = 0; change = fromTo (a .thread) (a .statement) least greatest (a .least) (a .greatest); sheet = new }
+Holds (refused s a r p) =
+    change s (a .thread) (a .statement) (a .least) (a .greatest) ≡ record { refusal = number r; place = p; change = noChange; sheet = s }
 Holds (gives s m n a x) = previewAnswer s m n (a .thread) (a .statement) (a .least) (a .greatest) ≡ x
 Holds (leaves s copy work a x) = preview s copy work (a .thread) (a .statement) (a .least) (a .greatest) ≡ x
 
@@ -51,16 +54,16 @@ loads least greatest = header 10 100 0 10 ++ locks 0 ++ variable 0 9 ++ thread 1
 unfoldable pub rows : List Fact
 rows =
     -- B's statement 0 stands at byte 27: its times are bytes 30 to 33, high byte first
-    becomes B (ask 0 0 258 772) (take 30 B ++ 1 ∷ 2 ∷ 3 ∷ 4 ∷ drop 34 B)
-    ∷ becomes B (ask 0 0 2 5) (take 33 B ++ 5 ∷ drop 34 B)
+    becomes B (ask 0 0 258 772) 2 3 (take 30 B ++ 1 ∷ 2 ∷ 3 ∷ 4 ∷ drop 34 B)
+    ∷ becomes B (ask 0 0 2 5) 2 3 (take 33 B ++ 5 ∷ drop 34 B)
     -- the times that it has
-    ∷ becomes B (ask 0 0 2 3) B
+    ∷ becomes B (ask 0 0 2 3) 2 3 B
     -- the last statement, and one of the second thread
-    ∷ becomes B (ask 0 1 0 0) B
-    ∷ becomes C (ask 1 0 2 6) (header 10 100 0 10 ++ locks 0 ++ thread 0 ++ skip 1 4 ++ halt ++ thread 0 ++ skip 2 6 ++ halt)
+    ∷ becomes B (ask 0 1 0 0) 0 0 B
+    ∷ becomes C (ask 1 0 2 6) 2 3 (header 10 100 0 10 ++ locks 0 ++ thread 0 ++ skip 1 4 ++ halt ++ thread 0 ++ skip 2 6 ++ halt)
     -- "least at least 1, greatest at most 65,535": the edges
-    ∷ becomes B (ask 0 0 1 1) (take 30 B ++ 0 ∷ 1 ∷ 0 ∷ 1 ∷ drop 34 B)
-    ∷ becomes B (ask 0 0 65535 65535) (take 30 B ++ 255 ∷ 255 ∷ 255 ∷ 255 ∷ drop 34 B)
+    ∷ becomes B (ask 0 0 1 1) 2 3 (take 30 B ++ 0 ∷ 1 ∷ 0 ∷ 1 ∷ drop 34 B)
+    ∷ becomes B (ask 0 0 65535 65535) 2 3 (take 30 B ++ 255 ∷ 255 ∷ 255 ∷ 255 ∷ drop 34 B)
     ∷ refused B (ask 0 0 0 0) offRange 0
     ∷ refused B (ask 0 0 0 1) offRange 0
     ∷ refused B (ask 0 0 3 2) offRange 0
@@ -72,10 +75,10 @@ rows =
     ∷ refused B (ask 0 1 1 1) offRange 0
     ∷ refused B (ask 0 1 1 0) offRange 0
     -- also where it is not the last statement
-    ∷ becomes (routine 0 (halt ++ halt)) (ask 0 0 0 0) (routine 0 (halt ++ halt))
+    ∷ becomes (routine 0 (halt ++ halt)) (ask 0 0 0 0) 0 0 (routine 0 (halt ++ halt))
     ∷ refused (routine 0 (halt ++ halt)) (ask 0 0 1 1) offRange 0
     -- a sheet with a variable
-    ∷ becomes (loads 1 1) (ask 0 0 2 3) (loads 2 3)
+    ∷ becomes (loads 1 1) (ask 0 0 2 3) 1 1 (loads 2 3)
     -- no such statement, no such thread; 5 before 4
     ∷ refused B (ask 0 2 2 5) noSuchName 0
     ∷ refused B (ask 1 0 2 5) noSuchName 0

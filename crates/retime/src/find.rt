@@ -1,4 +1,5 @@
 // A statement of a sheet that reads, by its thread and its number, both from 0.
+use expression::num16_at;
 use reader::Index;
 use reader::MOST_STATEMENTS;
 ghost use mathlib.Core.Path.{_≡_};
@@ -8,11 +9,13 @@ ghost use Rattle.rules.specs.Format.{readSheet};
 ghost use Rattle.reader.specs.Index.{indexOf};
 ghost use Rattle.retime.specs.Shape.{noneFound, foundAt, Finds};
 
-// Whether there is such a statement; its place, and its code.
+// Whether there is such a statement; its place, its code and its times.
 pub struct Found {
     pub there: bool,
     pub place: usize,
     pub code: usize,
+    pub least: u64,
+    pub greatest: u64,
 }
 
 fn none() -> Found
@@ -22,6 +25,8 @@ fn none() -> Found
         there: false,
         place: 0,
         code: 0,
+        least: 0,
+        greatest: 0,
     }
 }
 
@@ -29,10 +34,14 @@ fn found_at(sheet: &[u8], place: usize) -> Found
     requires { ⌜ place + 8 ≤ length (now sheet) ⌝ }
     ensures { λ r. ⌜ r ≡ foundAt (now (sheet .entry)) place ⌝ }
 {
+    let least = num16_at(sheet, place + 3);
+    let greatest = num16_at(sheet, place + 5);
     Found {
         there: true,
         place: place,
         code: sheet[place + 7] as usize,
+        least: least as u64,
+        greatest: greatest as u64,
     }
 }
 

@@ -1,4 +1,4 @@
-// Bytes that are lent: filled, compared, changed, copied and read.
+// Bytes that are lent: filled, looked at, changed and read.
 
 // What a copy buffer holds before each call.
 const FILLED: u8 = 7;
@@ -30,20 +30,6 @@ pub(crate) fn zero_bytes(bytes: &[u8]) -> bool {
     all_bytes(bytes, 0)
 }
 
-pub(crate) fn same_bytes(a: &[u8], b: &[u8]) -> bool {
-    if a.len() != b.len() {
-        return false;
-    }
-    let mut i: usize = 0;
-    while i < a.len() {
-        if a[i] != b[i] {
-            return false;
-        }
-        i += 1;
-    }
-    true
-}
-
 // Never the same, and the same again where it is done twice.
 fn turned(b: u8) -> u8 {
     255 - b
@@ -53,22 +39,6 @@ fn turned(b: u8) -> u8 {
 pub(crate) fn turn(bytes: &mut [u8], at: usize) {
     if at < bytes.len() {
         bytes[at] = turned(bytes[at]);
-    }
-}
-
-fn byte_at(bytes: &[u8], i: usize) -> u8 {
-    if i < bytes.len() {
-        return bytes[i];
-    }
-    0
-}
-
-// As many bytes as the second has room for, zeros behind the first's last.
-pub(crate) fn copy_bytes(from: &[u8], to: &mut [u8]) {
-    let mut i: usize = 0;
-    while i < to.len() {
-        to[i] = byte_at(from, i);
-        i += 1;
     }
 }
 

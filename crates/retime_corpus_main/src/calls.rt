@@ -1,17 +1,17 @@
 // The two calls on an entry's sheet, and what came of them.
-use crate::buffers::copy_bytes;
 use crate::buffers::fill_bytes;
 use crate::buffers::filled_bytes;
 use crate::buffers::read_part;
-use crate::buffers::same_bytes;
 use crate::buffers::turn;
 use crate::buffers::zero_bytes;
 use crate::entry::Entry;
 use crate::entry::same_answer;
 use crate::entry::same_change;
 use corpus::both;
+use corpus::copy_bytes;
 use corpus::fill;
 use corpus::filled;
+use corpus::same_bytes;
 use corpus::zeros;
 use retime::change_times;
 use retime::preview_times;
@@ -119,14 +119,13 @@ fn preview(
 }
 
 // The preview, then the change. The second buffer holds what the sheet was, then what it is to be.
-pub(crate) fn compare(
+fn compare_calls(
     e: Entry,
     sheet: &mut [u8],
     stated: &mut [u8],
     copy: &mut [u8],
     work: &mut [i32],
 ) -> Verdict {
-    copy_bytes(sheet, stated);
     let v = preview(e, sheet, stated, copy, work);
     if !read_part(stated, e.at, e.otherwise) {
         return not_read();
@@ -138,4 +137,18 @@ pub(crate) fn compare(
         clean: v.clean,
         sheet: same_bytes(sheet, stated),
     }
+}
+
+// Both calls, with a copy of the sheet to compare with.
+pub(crate) fn compare(
+    e: Entry,
+    sheet: &mut [u8],
+    stated: &mut [u8],
+    copy: &mut [u8],
+    work: &mut [i32],
+) -> Verdict {
+    if copy_bytes(sheet, stated) {
+        return compare_calls(e, sheet, stated, copy, work);
+    }
+    not_read()
 }

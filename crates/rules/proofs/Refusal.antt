@@ -2,7 +2,7 @@
 use mathlib.Core.Path.{_≡_}
 use native.Mathlib.Omega.{arith}
 use Rattle.rules.specs.Refusal.{Refusal, number}
-use Rattle.rules.specs.Refusal.{short, outOfTurn, badLength, offRange, noSuchName, badExpression, noHalt, tooMany, tooLong, noReading, stuck, pastLimit, outOfSteps, outOfRoom, labelBroken, offScale, outputFull, notRun}
+use Rattle.rules.specs.Refusal.{short, outOfTurn, badLength, offRange, noSuchName, badExpression, noHalt, tooMany, tooLong, noReading, stuck, pastLimit, outOfSteps, outOfRoom, labelBroken, offScale, changedSince, outputFull, notRun}
 
 pub positive : (r : Refusal) → number r ≡ 0 → ⊥
 positive short e = omega arith
@@ -21,5 +21,6 @@ positive outOfSteps e = omega arith
 positive outOfRoom e = omega arith
 positive labelBroken e = omega arith
 positive offScale e = omega arith
+positive changedSince e = omega arith
 positive outputFull e = omega arith
 positive notRun e = omega arith

@@ -35,6 +35,8 @@ pub data Refusal : Type 0 where
   labelBroken : Refusal
   -- a result's interval leaves the 32-bit values (02, ticket 1: "becomes its own number")
   offScale : Refusal
+  -- a change of times cannot be taken back (02, ticket 8: "18 changed since")
+  changedSince : Refusal
   -- a lent output is too short (02, ticket 7: "19 for a short copy buffer")
   outputFull : Refusal
   -- a record is not a run of the sheet (02, ticket 9: "21 not a run")
@@ -57,6 +59,7 @@ number outOfSteps = 13
 number outOfRoom = 14
 number labelBroken = 15
 number offScale = 16
+number changedSince = 18
 number outputFull = 19
 number notRun = 21
 

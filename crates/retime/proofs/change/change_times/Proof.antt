@@ -4,8 +4,9 @@ use mathlib.Core.Path.{sym}
 use Rattle.rules.specs.Format.{readSheet}
 use Rattle.rules.proofs.FieldAt.{all-below}
 use Rattle.reader.proofs.Facts.{rejected}
-use Rattle.retime.proofs.Changing.{times-unread, given-refused}
+use Rattle.retime.proofs.Changing.{sheet-unread, given-refused}
 use Rattle.retime.proofs.Claims.{reads-retimed}
+use Rattle.retime.proofs.TakeBack.{comes-back}
 use borrow.Author.Needs.{needs}
 use Rattle.retime.proofs.change.change_times.Statement.{statement}
 use Rattle.retime.proofs.change.change_times.Tie as tie
@@ -23,10 +24,10 @@ returns : tie.Need-returns
 returns c =
     let arg = c .before .before .before .before .before .before .before .before .before .args in
     let o = all-below (arg .sheet .now) (λ p. omega (arith, c .before .before .before .before .before .before .before .before .slice-known .given p)) in
-    (c .before .before .change-by .ensures, reads-retimed (arg .sheet .now) o (arg .thread) (arg .statement) (arg .least) (arg .greatest))
+    (c .before .before .change-by .ensures, (reads-retimed (arg .sheet .now) o (arg .thread) (arg .statement) (arg .least) (arg .greatest), comes-back (arg .sheet .now) o (arg .thread) (arg .statement) (arg .least) (arg .greatest)))
 
-answered-requires : tie.Need-answered-requires
-answered-requires c κs = search needs
+refused-requires : tie.Need-refused-requires
+refused-requires c κs = search needs
 
 same-length-2 : tie.Need-same-length-2
 same-length-2 c = search needs
@@ -36,8 +37,8 @@ returns-2 c =
     let arg = c .before .before .before .before .before .before .args in
     let o = all-below (arg .sheet .now) (λ p. omega (arith, c .before .before .before .before .before .slice-known .given p)) in
     let (q, e, n) = rejected (readSheet (arg .sheet .now)) (c .before .before .before .read-sheet .ensures) (c .before .if1 .left) in (
-      given-refused (arg .sheet .now) (arg .thread) (arg .statement) (arg .least) (arg .greatest) (times-unread (arg .sheet .now) (arg .thread) (arg .statement) (arg .least) (arg .greatest) e) (sym n) (c .answered .ensures),
-      reads-retimed (arg .sheet .now) o (arg .thread) (arg .statement) (arg .least) (arg .greatest),
+      given-refused (arg .sheet .now) (arg .thread) (arg .statement) (arg .least) (arg .greatest) (sheet-unread (arg .sheet .now) (arg .thread) (arg .statement) _ e) (sym n) (c .refused .ensures),
+      (reads-retimed (arg .sheet .now) o (arg .thread) (arg .statement) (arg .least) (arg .greatest), comes-back (arg .sheet .now) o (arg .thread) (arg .statement) (arg .least) (arg .greatest)),
     )
 
 pub change-times-spec : {M : Type 1} → statement M
@@ -48,6 +49,6 @@ change-times-spec =
     change-by-requires
     same-length
     returns
-    answered-requires
+    refused-requires
     same-length-2
     returns-2)

@@ -1,3 +1,0 @@
--- Laws of what the program prints, and of its arguments.
-pub mod Cut
-pub mod Laws

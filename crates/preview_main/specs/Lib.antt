@@ -1,2 +1,0 @@
--- What the program's functions are measured against.
-pub mod Line

@@ -1,0 +1,3 @@
+-- What the program's functions are measured against: its words, and what it prints.
+pub mod Words
+pub mod Line
