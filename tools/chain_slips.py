@@ -18,7 +18,7 @@ from slips import Program
 
 MODULES = ("chains", "chain_cases", "chain_corpus", "chain_histogram", "chain_never", "chain_orders", "chain_plant", "chain_random",
            "chain_sheets", "chain_steps", "chain_written", "retime_asked", "retime_sheets", "field", "sheet_parts", "sheet_reads",
-           "command_line", "entries", "generator", "oracle", "random")
+           "command_line", "entries", "fault_pairs", "generator", "oracle", "random")
 CHAINS = Program("chains", MODULES, "--edition", "2021", edited=("retime_change", "retime_back"))
 
 slip, same = CHAINS.slip, CHAINS.same
