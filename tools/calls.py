@@ -12,7 +12,8 @@ ROOT = os.path.dirname(os.path.dirname(os.path.realpath(__file__)))
 B = bytes.fromhex("010010 0000000A 00000064 00000002 00000003 030001 00 040001 00 060005 0002 0003 01 060005 0000 0000 00")
 
 # the modules of the command
-PARTS = ("sheet", "words", "fields", "given", "lookup", "follower", "times", "preview", "take_back", "programs", "usages")
+PARTS = ("sheet", "fields", "given", "programs", "usages", "words")
+PARTS += ("checker", "lookup", "follower", "times", "preview", "take_back", "mend")
 
 counts = {True: 0, False: 0}  # what held, and what did not
 
@@ -88,7 +89,7 @@ def copied(folder):
     shutil.copy(os.path.join(ROOT, "zumbeiry"), copy)
     for name in PARTS:
         shutil.copy(os.path.join(ROOT, "tools", f"{name}.py"), os.path.join(copy, "tools"))
-    crates = "label:\nlabel_main: label io # a comment\nshelf_main: io\nrecord_main: io\nretime_main: io\n"
+    crates = "label:\nlabel_main: label io # a comment\nshelf_main: io\nrecord_main: io\nretime_main: io\nmend_main: io\n"
     in_folder(copy, "crates.txt", crates.encode())
     in_folder(copy, os.path.join("crates", "label", "src", "lib.rt"), b"")
     return copy

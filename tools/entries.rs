@@ -1,6 +1,6 @@
-//! What the corpora of lookups, of records, of new times and of chains have in common: entries of two
-//! files each, with the numbers that are due for them. lookup_corpus.rs, record_corpus.rs, retime_corpus.rs
-//! and chain_corpus.rs say what stands in an entry's front. Numbers have the high byte first:
+//! What the corpora of lookups, of records, of new times, of chains and of mends have in common: entries of
+//! two files each, with the numbers that are due for them. lookup_corpus.rs, record_corpus.rs, retime_corpus.rs,
+//! chain_corpus.rs and mend_corpus.rs say what stands in an entry's front. Numbers have the high byte first:
 //!
 //!     entries                       4 bytes
 //!     then for each entry

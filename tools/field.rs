@@ -1,5 +1,5 @@
 //! Fields of a tag, a length and a body: how one is made, and where the body of one that is due
-//! stands. A module of shelves.rs, records.rs, retimes.rs and chains.rs.
+//! stands. A module of shelves.rs, records.rs, retimes.rs, chains.rs and mends.rs.
 
 use std::ops::Range;
 

@@ -10,7 +10,7 @@ from typing import NamedTuple
 
 import words
 from fields import heads
-from programs import CannotRun, run_on
+from programs import no_answer, run_on
 
 VALUE, EVENT = 32, 33  # the tags
 TURN = 65_536  # ticks until the recorder's clock starts over
@@ -116,8 +116,7 @@ def call(path, sheet, recorded):
     out, err = run_on(path, sheet, recorded)
     if ANSWER.fullmatch(out) and not err:
         return Followed(*map(int, out.split()))
-    told = err.decode(errors="replace").partition("\n")[0][:200]
-    raise CannotRun("target/bin/record_main gave no answer" + (told and f": {told}"))
+    raise no_answer("record_main", err)
 
 
 def holds(answer, sheet):

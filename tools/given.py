@@ -1,4 +1,4 @@
-"""The files that a person names: their bytes, the sheet that a text tells, other bytes for a file, and its name for a shell."""
+"""The files that a person names: their bytes, the sheet that a text tells, other bytes for one, a new one, its name for a shell."""
 
 import contextlib
 import os
@@ -104,6 +104,29 @@ def rewrite(given, new):
         put(given.name, new)
     except OSError as error:
         raise CannotRun(f"{given.name}: not written: {reason(error)}") from None
+
+
+def creatable(given, name):
+    """Tells it if a file of that name is there already, the sheet that was given or another."""
+    if given.name != "-" and os.path.exists(name) and os.path.samefile(given.name, name):
+        raise CannotRun(f"{name}: this is SHEET itself, which is left as it is; name a new file")
+    if os.path.lexists(name):
+        raise CannotRun(f"{name}: there is such a file already; name a new one")
+
+
+def create(name, new):
+    """A new file with these bytes. None that is there is overwritten, and a failure leaves none."""
+    try:
+        with open(name, "xb") as file:
+            try:
+                file.write(new)
+                file.flush()
+                os.fsync(file.fileno())
+            except BaseException:
+                os.unlink(name)
+                raise
+    except OSError as error:
+        raise CannotRun(f"{name}: not written: {reason(error)}") from None
 
 
 def quoted(name):

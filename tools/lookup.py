@@ -10,7 +10,7 @@ from typing import NamedTuple
 import sheet as notation
 import words
 from fields import heads
-from programs import CannotRun, run_on
+from programs import CannotRun, no_answer, run_on
 
 NAME, SHEET = 48, 49  # the tags
 LONGEST = 65_535  # bytes of a sheet, since its length has two
@@ -71,8 +71,7 @@ def look(path, name, files):
         return Refused(*map(int, err.split()))
     if not err and len(out) <= LONGEST and any(notation.field(SHEET, out) in given for given in files):
         return out
-    told = err.decode(errors="replace").partition("\n")[0][:200]
-    raise CannotRun("target/bin/shelf_main gave neither a sheet of the files nor a refusal" + (told and f": {told}"))
+    raise no_answer("shelf_main", err, "gave neither a sheet of the files nor a refusal")
 
 
 def names_line(shown, given):

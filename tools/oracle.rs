@@ -210,6 +210,11 @@ fn read_program(bytes: &[u8]) -> Result<Program, Refusal> {
     if bytes.len() > MAX_SHEET {
         return refuse(TOO_LONG, 0);
     }
+    read_fields(bytes)
+}
+
+/// The same without 9: the fields of a sheet of any length.
+fn read_fields(bytes: &[u8]) -> Result<Program, Refusal> {
     let mut reader = Reader { bytes, place: 0 };
 
     // "1 | time limit, step budget, label low, label high | first, once"
@@ -788,6 +793,12 @@ pub fn check(sheet: &[u8], length: usize) -> Answer {
         Ok(program) => search(&program, length / STATE_LENGTH),
         Err(Refusal { number, place }) => Answer { refusal: number, place, steps: 0, low: 0, high: 0 },
     }
+}
+
+/// Number and place with which the fields of a sheet are refused, whatever its length; None if they read.
+#[allow(dead_code)] // mends.rs asks for it
+pub fn fields_refused(sheet: &[u8]) -> Option<(u8, usize)> {
+    read_fields(sheet).err().map(|Refusal { number, place }| (number, place))
 }
 
 fn search(program: &Program, slots: usize) -> Answer {

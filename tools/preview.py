@@ -5,8 +5,8 @@ from typing import NamedTuple
 
 import words
 from given import rewrite
-from programs import run_on
-from times import NUMBER, OF_SHEET, Change, found, is_given, name_of, no_answer, span, statement_lines, there_lines, times_of
+from programs import no_answer, run_on
+from times import NUMBER, OF_SHEET, PROGRAM, Change, found, is_given, name_of, span, statement_lines, there_lines, times_of
 
 # of new times, in the order in which they are tried, the number: its trade word, when it is given, what to do
 REFUSALS = {
@@ -68,7 +68,7 @@ def call(path, sheet, asked):
         now, then = (words.Answer(*map(int, line.split())) for line in out.splitlines())
         if fit(now, then):
             return now, then
-    raise no_answer(err)
+    raise no_answer(PROGRAM, err)
 
 
 # ---- in words
@@ -136,7 +136,7 @@ def changed(path, sheet, asked):
         right = Change(asked.thread, asked.statement, statement.least, statement.greatest, asked.least, asked.greatest)
         if change == right and is_given(sheet, new, statement, asked[2:]):
             return change, new
-    raise no_answer(err)
+    raise no_answer(PROGRAM, err)
 
 
 def write(given, new, then):

@@ -25,6 +25,14 @@ def say(words):
     put_error(f"zumbeiry: {words}\n".encode(errors="backslashreplace"))
 
 
+def put_lines(lines, error=False):
+    """Lines to standard output, or to standard error."""
+    if error:
+        put_error("".join(f"{line}\n" for line in lines).encode(errors="backslashreplace"))
+    else:
+        print("\n".join(lines), flush=True)
+
+
 def reason(error):
     """An operating system's error in words."""
     return error.strerror or str(error)
@@ -111,6 +119,12 @@ def run(path, *arguments, given=b""):
     if ended.returncode > 0:
         raise CannotRun(f"target/bin/{name} ended with status {ended.returncode}")
     return ended.stdout, ended.stderr
+
+
+def no_answer(name, err, gave="gave no answer"):
+    """That the program of that name gave no answer, and what it told on standard error."""
+    told = err.decode(errors="replace").partition("\n")[0][:200]
+    return CannotRun(f"target/bin/{name} {gave}" + (told and f": {told}"))
 
 
 def lend(given, lent):

@@ -1,5 +1,5 @@
 //! The sheets chosen by hand whose statements get new times: the paper's, and some whose search gives
-//! another refusal with other times.
+//! another refusal with other times. A module of retimes.rs, chains.rs and mends.rs.
 
 use crate::sheet_parts::*;
 

@@ -1,4 +1,5 @@
-//! Sheets made of their parts, and sheets that do not read. A module of records.rs, retimes.rs and chains.rs.
+//! Sheets made of their parts, and sheets that do not read. A module of records.rs, retimes.rs, chains.rs and
+//! mends.rs.
 
 use crate::field::field;
 

@@ -206,7 +206,7 @@ slip("left over first", "bytes left over after the longest expression are 6 befo
      ("                if register >= self.registers {\n                    return refuse(NO_SUCH_NAME, self.place);",
       "                if register >= self.registers {\n                    if self.bytes.first().is_some_and(|&code| code > 37) {\n                        return self.bad();\n                    }\n                    return refuse(NO_SUCH_NAME, self.place);"))
 slip("too long last", "the fields are read before 9",
-     ("    if bytes.len() > MAX_SHEET {\n        return refuse(TOO_LONG, 0);\n    }\n    let mut reader", "    let mut reader"),
+     ("    if bytes.len() > MAX_SHEET {\n        return refuse(TOO_LONG, 0);\n    }\n    read_fields(bytes)\n", "    read_fields(bytes)\n"),
      ("    Ok(Program { limit, budget,", "    if bytes.len() > MAX_SHEET {\n        return refuse(TOO_LONG, 0);\n    }\n    Ok(Program { limit, budget,"))
 
 # ---- the reader: which refusal, which place

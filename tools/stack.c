@@ -1,8 +1,8 @@
 /*
- * The stack that a call of zumbeiry_check, zumbeiry_change_times, zumbeiry_take_back and zumbeiry_preview uses: with each sheet of a
- * corpus each is made on a painted stack, and the deepest byte that changed is found. The new times, and the old ones, are those that
- * the sheet's first statement has, so that the preview gives the numbers of the check, and the change and its taking back leave the
- * sheet as it is.
+ * The stack that a call of zumbeiry_check, zumbeiry_change_times, zumbeiry_take_back, zumbeiry_preview and zumbeiry_mend uses: with each
+ * sheet of a corpus each is made on a painted stack, and the deepest byte that changed is found. The new times, and the old ones, are
+ * those that the sheet's first statement has, so that the preview gives the numbers of the check, and the change and its taking back
+ * leave the sheet as it is.
  *
  *     stack CORPUS     corpus.rs describes the file
  */
@@ -22,6 +22,7 @@ static unsigned char stack[STACK] __attribute__((aligned(4096)));
 static uint8_t *sheet, copy[65536];
 static size_t sheet_length, work_length, least, greatest, depth;
 static int32_t work[65536];
+static uint32_t changes[1024];
 static uint64_t answer[8];
 
 static void check(void)
@@ -44,6 +45,11 @@ static void preview(void)
     zumbeiry_preview(sheet, sheet_length, copy, sizeof copy, work, work_length, 0, 0, least, greatest, answer, 5);
 }
 
+static void mend(void)
+{
+    zumbeiry_mend(sheet, sheet_length, copy, sizeof copy, changes, 1024, answer, 4);
+}
+
 struct measured {
     const char *name;
     void (*call)(void);
@@ -55,6 +61,7 @@ static struct measured all[] = {
     {"zumbeiry_change_times", change, 0, 0},
     {"zumbeiry_take_back", take_back, 0, 0},
     {"zumbeiry_preview", preview, 0, 0},
+    {"zumbeiry_mend", mend, 0, 0},
 };
 static struct measured *const all_end = all + sizeof all / sizeof *all;
 
@@ -105,11 +112,16 @@ static void take_times(void)
     greatest = there ? number(sheet + at + 5, 2) : 0;
 }
 
-/* Whether the answer is what the entry says; of the change and its taking back, which do not search, 0 for a sheet that reads. */
+/*
+ * Whether the answer is what the entry says; of the change and its taking back, which do not search, 0 for a sheet that reads. Such a
+ * sheet is copied by the mending; any other is refused, or changes are listed.
+ */
 static int expected(const struct measured *measured, const uint8_t *entry)
 {
     if (entry[19] == WRONG)
         return 1;
+    if (measured->call == mend)
+        return (answer[0] == 0 && answer[3] == 0) == (entry[4] == 0 || entry[4] > 9);
     if (measured->call == change || measured->call == take_back)
         return answer[0] == (entry[4] <= 9 ? entry[4] : 0);
     return answer[0] == entry[4] && answer[2] == number(entry + 7, 4);

@@ -7,8 +7,8 @@ from typing import NamedTuple
 
 import words
 from given import quoted, rewrite
-from programs import ROOT, run_on
-from times import NUMBER, OF_SHEET, Change, found, is_given, name_of, no_answer, statement_lines, there_lines, times_of
+from programs import ROOT, no_answer, run_on
+from times import NUMBER, OF_SHEET, PROGRAM, Change, found, is_given, name_of, statement_lines, there_lines, times_of
 
 # of a sheet that reads, in the order in which they are tried, the number: its trade word, when it is given, what to do
 REFUSALS = {
@@ -71,7 +71,7 @@ def ask(path, sheet, change):
         answer = Answer(int(line[1]), int(line[2]), out[line.end() :])
         if fits(answer, sheet, change):
             return answer
-    raise no_answer(err)
+    raise no_answer(PROGRAM, err)
 
 
 def call(path, sheet, change):

@@ -86,11 +86,6 @@ def times_of(kind, word):
 # ---- what the program answers
 
 
-def no_answer(err):
-    told = err.decode(errors="replace").partition("\n")[0][:200]
-    return CannotRun(f"target/bin/{PROGRAM} gave no answer" + (told and f": {told}"))
-
-
 def times_at(sheet, at):
     return tuple(map(str, struct.unpack(">HH", sheet[at : at + 4])))
 

@@ -1,12 +1,12 @@
 #!/usr/bin/env python3
 """Tries ./zumbeiry check: on every sheet of sheets/, as text and as bytes, and on inputs that are broken on purpose. Then
 building, by try_building.py, ./zumbeiry find, by try_find.py, tools/shelf_file.py, by try_shelf_file.py, ./zumbeiry follow, by
-try_follow.py, ./zumbeiry preview, by try_preview.py and try_written.py, and ./zumbeiry take-back, by try_take_back.py and
-try_chains.py.
+try_follow.py, ./zumbeiry preview, by try_preview.py and try_written.py, ./zumbeiry take-back, by try_take_back.py and
+try_chains.py, and ./zumbeiry mend, by try_mend.py and try_mended.py.
 
     python3 tools/try_command.py
 
-The command first builds its four programs in target/bin/, if need be. The last line is 'N passed, 0 failed'.
+The command first builds its five programs in target/bin/, if need be. The last line is 'N passed, 0 failed'.
 """
 
 import os
@@ -19,6 +19,7 @@ sys.dont_write_bytecode = True
 
 import follower
 import lookup
+import mend
 import preview
 import sheet
 import take_back
@@ -26,6 +27,8 @@ import try_building
 import try_chains
 import try_find
 import try_follow
+import try_mend
+import try_mended
 import try_preview
 import try_shelf_file
 import try_take_back
@@ -197,7 +200,7 @@ def try_usage(folder):
 def try_readme():
     text = text_of("README.md")
     rows = re.findall(r"^\| (\d+) (.+) \| (.+) \| (.+) \|$", text, re.MULTILINE)
-    for module in (words, lookup, follower, preview, take_back):
+    for module in (words, lookup, follower, preview, take_back, mend):
         table = [(str(number), *row) for number, row in module.REFUSALS.items()]
         expect(f"README has the table of {module.__name__}", [row for row in rows if row in table] == table, rows)
     sums = re.findall(r"^\| (\d) \| (\d+) \| ([\d,]+) \|$", text, re.MULTILINE)
@@ -208,7 +211,7 @@ def try_readme():
 def main():
     find, follow = ["--check", "10", *try_find.EXAMPLES], ["sheets/B.txt", "sheets/B-at-3.rec"]
     calls = (["check", "sheets/B.txt"], ["find", *find], ["follow", *follow], ["preview", "sheets/B.txt", *try_preview.ASKED])
-    for arguments in calls:
+    for arguments in (*calls, ["mend", "sheets/garbled.txt"]):
         subprocess.run([os.path.join(ROOT, "zumbeiry"), *arguments], cwd=ROOT)
     with tempfile.TemporaryDirectory() as folder:
         try_sheets(folder)
@@ -227,6 +230,8 @@ def main():
         try_written.try_all(folder, copy)
         try_take_back.try_all(folder, copy)
         try_chains.try_all(folder)
+        try_mend.try_all(folder, copy)
+        try_mended.try_all(folder, copy)
     print(f"{counts[True]} passed, {counts[False]} failed")
     return 1 if counts[False] else 0
 

@@ -9,6 +9,7 @@ VERBS = """usage: ./zumbeiry VERB ..
                          what would the check give, had that statement these times?
   take-back SHEET THREAD STATEMENT OLD_LEAST..OLD_GREATEST NEW_LEAST..NEW_GREATEST
                          the old times again, instead of the new ones that preview --write gave
+  mend SHEET [MENDED]    what did the card writer garble? the mended sheet goes into a new file
 
 ./zumbeiry VERB --help says more."""
 
@@ -91,3 +92,23 @@ SHEET is a file of bytes: neither a text nor standard input is written.
 
 Ends with 0 if the change is taken back, 1 if it is refused, 2 if the file could not be read or written or
 there is no answer."""
+
+MEND = """usage: ./zumbeiry mend [--numbers] [--text | --bytes] [--check] SHEET [MENDED]
+
+Mends what an old card writer garbles: the ends of the label, of a range or of a statement's times are
+exchanged where low is above high, and halt is added to a thread that closes on another statement. Prints
+four numbers (refusal, place, bytes of the mended sheet, numbers that list the changes, two for each) and
+the same in words, a line for each change. A sheet that reads well is copied. Offsets and lines are those
+of SHEET, which is left as it is.
+SHEET is bytes or text, as for check; - is standard input. MENDED is a new file, which gets the mended
+sheet's bytes, also where SHEET is text; none that is there is overwritten. If it is -, the bytes go to
+standard output, and numbers and words to standard error. Without MENDED nothing is written.
+
+  --numbers    the line of four numbers, and a line of two for each change, kind (1 exchanged, 2 halt
+               added) and offset of the field; with --check then the line of five numbers
+  --text       SHEET is text
+  --bytes      SHEET is bytes
+  --check      then checks the mended sheet too, as ./zumbeiry check --bytes does
+
+Ends with 0 if the sheet is mended or copied (with --check: and accepted), 1 if the mending or the check is
+refused, 2 if a file could not be read or written or there is no answer."""

@@ -57,7 +57,11 @@ REFUSALS = {
         "a statement no longer shows the times that a change gave it (take-back alone gives this)",
         "see what take-back says",
     ),
-    19: ("output full", "a lent buffer is too short for what goes into it (preview alone gives this)", "see what preview says"),
+    19: (
+        "output full",
+        "a lent buffer is too short for what goes into it (preview and mend alone give this)",
+        "see what preview and mend say",
+    ),
     21: ("not a run", "what the machine recorded is not a run of the sheet (follow alone gives this)", "see what follow says"),
 }
 

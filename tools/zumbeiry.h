@@ -1,8 +1,8 @@
 /*
- * The library's six calls. `rt staticlib label` writes target/staticlib/liblabel.a, with zumbeiry_check, `rt staticlib shelf`
+ * The library's seven calls. `rt staticlib label` writes target/staticlib/liblabel.a, with zumbeiry_check, `rt staticlib shelf`
  * writes target/staticlib/libshelf.a, with zumbeiry_find, `rt staticlib record` target/staticlib/librecord.a, with zumbeiry_follow,
- * and `rt staticlib retime` target/staticlib/libretime.a, with zumbeiry_change_times, zumbeiry_take_back and zumbeiry_preview
- * (x86-64). A program links the archive of the call that it makes.
+ * `rt staticlib retime` target/staticlib/libretime.a, with zumbeiry_change_times, zumbeiry_take_back and zumbeiry_preview, and
+ * `rt staticlib mend` target/staticlib/libmend.a, with zumbeiry_mend (x86-64). A program links the archive of the call that it makes.
  */
 #ifndef ZUMBEIRY_H
 #define ZUMBEIRY_H
@@ -205,6 +205,40 @@ uint32_t zumbeiry_preview(const uint8_t *sheet, size_t sheet_length,
                           size_t thread, size_t statement,
                           uint64_t least, uint64_t greatest,
                           uint64_t *answer, size_t answer_length);
+
+/*
+ * Mends a sheet that an old card writer garbled, into a lent buffer: the ends of the label, of a range or of a statement's times are
+ * exchanged where low is above high, and a halt is added to a thread that closes on another statement. A sheet that reads is copied.
+ *
+ * Each change goes to the changes as two numbers, in the sheet's order: its kind (1: exchanged; 2: halt added) and the offset of its
+ * field in the sheet as it was given, of an added halt that of the thread's last statement. The rest of both buffers is zero.
+ *
+ * Four numbers go to answer[0] to answer[3], in this order:
+ *
+ *     refusal   0: mended or copied; 9: the sheet has more than 16,384 bytes; else 1 to 6 or 8: with the changes made it does not
+ *               read, as in zumbeiry_check; else 9: with the added halts it has more than 16,384 bytes; else 19: a buffer is too short
+ *     place     for these that of zumbeiry_check, in the sheet as it was given (8 for an added halt that would be a 65th statement:
+ *               the thread's last one), else 0
+ *     written   the bytes of the mended sheet, 0 where it is refused
+ *     listed    the numbers of the changes, two for each, 0 where it is refused
+ *
+ * Where it is refused, both buffers are all zeros. It is proved that the mended sheet reads.
+ *
+ * An array of fewer than four numbers is left as it is, and the numbers after the fourth too; the sheet is mended all the same. The
+ * refusal is returned.
+ *
+ * Both buffers may have any length and any contents, and are written to their ends in every case; 16,384 bytes hold every mended
+ * sheet, and 594 numbers its list (so many by counting a sheet's fields; that 8,192 suffice is proved). The sheet may have any
+ * length and is only read. Nothing is allocated or kept between calls: threads may call at the same time, each with its own buffers
+ * and answer. A call needs stack: docs/PERFORMANCE.md has the size.
+ *
+ * The caller sees to it that each pointer has that many readable (mended, changes and answer: writable) numbers, aligned for their
+ * type and not null even where the length is 0, and that mended, changes and answer overlap neither each other nor the sheet.
+ */
+uint32_t zumbeiry_mend(const uint8_t *sheet, size_t sheet_length,
+                       uint8_t *mended, size_t mended_length,
+                       uint32_t *changes, size_t changes_length,
+                       uint64_t *answer, size_t answer_length);
 
 #ifdef __cplusplus
 }

@@ -22,7 +22,7 @@ use Rattle.reader.specs.declared.parts.Progress.{Progress}
 use Rattle.reader.specs.declared.parts.Progress.the-variants.{Read, Refused}
 use Rattle.reader.specs.declared.threads.Threads.{Threads}
 use Rattle.reader.specs.declared.Index.{Index}
-use Rattle.reader.specs.Index.{layPlaces, noPlaces, entriesOf, ThreadsRead, refusedIndex, indexWith, indexOf}
+use Rattle.reader.specs.Index.{readUpTo, layPlaces, noPlaces, entriesOf, ThreadsRead, refusedIndex, indexWith, indexOf}
 use Rattle.reader.specs.Walk.{headerOf, headerAt, partOf, headerPart, locksPart, variablesPart, indexFrom, walkedIndex}
 use Rattle.reader.proofs.outcome.Laws.{same-rule}
 
@@ -111,10 +111,14 @@ module _ (s : Bytes) where
   from-header (bad r p) = passed r p
   from-header (got h p) = from-locks h (readLocks s p)
 
-  pub sheet-long : {x : Index} → longestSheet < length s → x ≡ refusedIndex (ruleOf TooLong) 0 → x ≡ indexOf (readSheet s)
-  unfolding readSheet need indexOf
-  sheet-long h e = rw (lt-leb (length s) longestSheet h) e
+  pub sheet-long : {x : Index} (most : ℕ) → most < length s → x ≡ refusedIndex (ruleOf TooLong) 0 → x ≡ indexOf (readUpTo most s)
+  unfolding readUpTo need indexOf
+  sheet-long most h e = rw (lt-leb (length s) most h) e
 
-  pub sheet-walked : {x : Index} → length s ≤ longestSheet → x ≡ walkedIndex s → x ≡ indexOf (readSheet s)
-  unfolding readSheet readHeader need walkedIndex headerPart headerAt
-  sheet-walked h e = rw (le-leb (length s) longestSheet h) (e ∙ from-header (headerAt s 0))
+  pub sheet-walked : {x : Index} (most : ℕ) → length s ≤ most → x ≡ walkedIndex s → x ≡ indexOf (readUpTo most s)
+  unfolding readUpTo readHeader need walkedIndex headerPart headerAt
+  sheet-walked most h e = rw (le-leb (length s) most h) (e ∙ from-header (headerAt s 0))
+
+  pub up-to-longest : readUpTo longestSheet s ≡ readSheet s
+  unfolding readUpTo readSheet
+  up-to-longest = refl

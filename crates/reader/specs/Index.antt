@@ -3,14 +3,14 @@ use mathlib.Core.Path.{_≡_}
 use mathlib.Core.Bool.{Bool, true}
 use mathlib.Core.List.{List, [], _∷_, map}
 use Prim.Native.Nat.{ℕ, suc, _+_, _*_, _≤_}
-use lib.Dec.{eqb, ltb}
+use lib.Dec.{leb, eqb, ltb}
 use lib.ListN.{length, replicate}
 use lib.Seq.{sets}
 use Rattle.rules.specs.Base.{if_then_else_}
 use Rattle.rules.specs.Constants.{mostThreads, mostStatements}
-use Rattle.rules.specs.Refusal.{Refusal, number}
+use Rattle.rules.specs.Refusal.{Refusal, number, tooLong}
 use Rattle.rules.specs.Program.{Statement, Thread, Program}
-use Rattle.rules.specs.Format.{Bytes, byte, Got, bad, got}
+use Rattle.rules.specs.Format.{Bytes, byte, Got, bad, got, need, readFields}
 use Rattle.refusal.specs.declared.Refusal.the-variants.{NoSuchName, NoHalt}
 use Rattle.refusal.specs.Shape.{refusalOf}
 use Rattle.reader.specs.Ticks.{tick}
@@ -22,6 +22,14 @@ use Rattle.reader.specs.declared.threads.Threads.{Threads}
 use Rattle.reader.specs.declared.Index.{Index}
 use Rattle.reader.specs.declared.outcome.Count.{Count}
 use Rattle.reader.specs.declared.outcome.Count.the-variants.{Found, Failed}
+
+-- a place in an index is a number of two bytes
+abbrev pub greatestPlace : ℕ
+greatestPlace = 65535
+
+-- the reader with another greatest length; `readSheet` is this with `longestSheet`
+unfoldable pub readUpTo : ℕ → Bytes → Got Program
+readUpTo most s = need (leb (length s) most) tooLong 0 (readFields s)
 
 -- ---- closing a thread, from the places of its statements
 

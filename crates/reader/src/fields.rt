@@ -8,13 +8,13 @@ use crate::ticks::time32_at;
 use expression::num32_at;
 use refusal::Refusal;
 ghost use mathlib.Core.Path.{_≡_};
-ghost use mathlib.Core.Bool.{true};
+ghost use mathlib.Core.Bool.{true, _&&_};
 ghost use Prim.Native.Nat.{_+_, _≤_, _<_};
 ghost use lib.Dec.{leb};
 ghost use lib.ListN.{length};
 ghost use Rattle.rules.specs.Constants.{mostRegisters};
 ghost use Rattle.rules.specs.Refusal.{short};
-ghost use Rattle.rules.specs.Format.{got, need, byte, num16, hasBody, due, sized, headerFits, readLocks};
+ghost use Rattle.rules.specs.Format.{got, need, byte, num16, hasHead, hasBody, due, sized, headerFits, readLocks};
 ghost use Rattle.reader.specs.Decoded.{bodyEnd};
 ghost use Rattle.reader.specs.Outcome.{endOf};
 ghost use Rattle.reader.specs.Walk.{headerOf, headerIn, headerAt};
@@ -58,6 +58,16 @@ pub(crate) fn has_body(s: &[u8], at: usize) -> bool
 {
     let n = length_at(s, at);
     at + 3 + n <= s.len()
+}
+
+// A whole field stands at a place, of whichever tag.
+pub fn whole_field_at(s: &[u8], at: usize) -> bool
+    ensures { λ r. ⌜ r ≡ (hasHead (now (s .entry)) at && hasBody (now (s .entry)) at) ⌝ }
+{
+    if has_head(s, at) {
+        return has_body(s, at);
+    }
+    false
 }
 
 // The field at a place has the tag that is due.

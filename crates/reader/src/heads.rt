@@ -19,7 +19,7 @@ pub(crate) struct Field {
     pub body: usize,
 }
 
-pub(crate) fn has_head(s: &[u8], at: usize) -> bool
+pub fn has_head(s: &[u8], at: usize) -> bool
     ensures { λ r. ⌜ r ≡ hasHead (now (s .entry)) at ⌝ }
 {
     if s.len() < HEAD {

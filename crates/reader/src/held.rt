@@ -10,7 +10,7 @@ use crate::parts::variables_part;
 ghost use mathlib.Core.Path.{_≡_};
 ghost use Prim.Native.Nat.{_≤_};
 ghost use lib.ListN.{length};
-ghost use Rattle.rules.specs.Constants.{longestSheet};
+ghost use Rattle.reader.specs.Index.{greatestPlace};
 ghost use Rattle.reader.specs.Walk.{headerPart, locksPart, variablesPart, indexFrom, readOn, walkedIndex};
 
 struct Reader<'a> {
@@ -65,15 +65,15 @@ fn next_variables<'a>(r: Reader<'a>, progress: Progress) -> ReadOn<'a>
 
 // The threads are the rest of the sheet: with them the index is whole.
 fn rest_threads<'a>(r: Reader<'a>, progress: Progress) -> Index
-    requires { ⌜ length (now (r .sheet)) ≤ longestSheet ⌝ }
+    requires { ⌜ length (now (r .sheet)) ≤ greatestPlace ⌝ }
     ensures { λ x. ⌜ x ≡ indexFrom (now (r .entry .sheet)) (r .entry .at) progress ⌝ }
 {
     index_from(r.sheet, r.at, progress)
 }
 
-// Reads a sheet that is not too long, from its start.
+// Reads a sheet whose places an index can hold, from its start.
 pub(crate) fn walk_sheet(sheet: &[u8]) -> Index
-    requires { ⌜ length (now sheet) ≤ longestSheet ⌝ }
+    requires { ⌜ length (now sheet) ≤ greatestPlace ⌝ }
     ensures { λ r. ⌜ r ≡ walkedIndex (now (sheet .entry)) ⌝ }
 {
     let header = next_header(Reader { sheet, at: 0 });

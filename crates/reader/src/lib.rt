@@ -18,6 +18,7 @@ use crate::outcome::Count;
 use crate::parts::Progress;
 use crate::threads::ThreadEntry;
 use crate::threads::read_threads;
+pub use heads::has_head;
 use refusal::Refusal;
 use refusal::number_of;
 pub use statements::MOST_STATEMENTS;
@@ -27,13 +28,12 @@ pub use ticks::Time;
 ghost use mathlib.Core.Path.{_≡_};
 ghost use Prim.Native.Nat.{_≤_};
 ghost use lib.ListN.{length};
-ghost use Rattle.rules.specs.Constants.{longestSheet};
 ghost use Rattle.rules.specs.Format.{readThreads, readSheet};
 ghost use Rattle.refusal.specs.Shape.{ruleOf};
-ghost use Rattle.reader.specs.Index.{refusedIndex, indexWith, indexOf};
+ghost use Rattle.reader.specs.Index.{greatestPlace, readUpTo, refusedIndex, indexWith, indexOf};
 ghost use Rattle.reader.specs.Walk.{indexFrom};
 
-const LONGEST_SHEET: usize = 16384;
+const LONGEST_SHEET: u16 = 16384;
 
 pub const MOST_PLACES: usize = MOST_THREADS * MOST_STATEMENTS;
 
@@ -80,7 +80,7 @@ fn refused(r: Refusal, place: usize) -> Index
 
 // The index of a sheet whose threads stand from a place on, and what was read before them.
 fn indexed(s: &[u8], header: Header, locks: usize, variables: usize, at: usize) -> Index
-    requires { ⌜ length (now s) ≤ longestSheet ⌝ }
+    requires { ⌜ length (now s) ≤ greatestPlace ⌝ }
     ensures { λ r. ⌜ r ≡ indexWith header locks variables (readThreads variables locks (now (s .entry)) at) ⌝ }
 {
     let mut places = [0u16; MOST_PLACES];
@@ -112,7 +112,7 @@ fn indexed(s: &[u8], header: Header, locks: usize, variables: usize, at: usize) 
 
 // The index of what was read up to a place; a refusal is one at that place.
 pub(crate) fn index_from(s: &[u8], at: usize, progress: Progress) -> Index
-    requires { ⌜ length (now s) ≤ longestSheet ⌝ }
+    requires { ⌜ length (now s) ≤ greatestPlace ⌝ }
     ensures { λ r. ⌜ r ≡ indexFrom (now (s .entry)) at progress ⌝ }
 {
     match progress {
@@ -125,12 +125,19 @@ pub(crate) fn index_from(s: &[u8], at: usize, progress: Progress) -> Index
     }
 }
 
+// Reads a sheet that may have up to so many bytes.
+pub fn read_up_to(sheet: &[u8], most: u16) -> Index
+    ensures { λ r. ⌜ r ≡ indexOf (readUpTo most (now (sheet .entry))) ⌝ }
+{
+    if (most as usize) < sheet.len() {
+        return refused(Refusal::TooLong, 0);
+    }
+    walk_sheet(sheet)
+}
+
 // Reads a sheet.
 pub fn read_sheet(sheet: &[u8]) -> Index
     ensures { λ r. ⌜ r ≡ indexOf (readSheet (now (sheet .entry))) ⌝ }
 {
-    if LONGEST_SHEET < sheet.len() {
-        return refused(Refusal::TooLong, 0);
-    }
-    walk_sheet(sheet)
+    read_up_to(sheet, LONGEST_SHEET)
 }

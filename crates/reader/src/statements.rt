@@ -15,10 +15,10 @@ use refusal::Refusal;
 ghost use mathlib.Core.Path.{_≡_};
 ghost use Prim.Native.Nat.{_+_, _≤_, _<_};
 ghost use lib.ListN.{length};
-ghost use Rattle.rules.specs.Constants.{longestSheet, mostStatements};
+ghost use Rattle.rules.specs.Constants.{mostStatements};
 ghost use Rattle.rules.specs.Format.{num16, lengthFits, timesFit, readContents, readStatement, statementHere, readStatements};
 ghost use Rattle.reader.specs.Outcome.{endOf, nextOf, namesOf};
-ghost use Rattle.reader.specs.Index.{StatementsRead};
+ghost use Rattle.reader.specs.Index.{greatestPlace, StatementsRead};
 
 pub const MOST_STATEMENTS: usize = 64;
 
@@ -142,7 +142,7 @@ pub(crate) fn read_statements(
     places: &mut [u16],
     base: usize,
 ) -> Count
-    requires { ⌜ (base + mostStatements ≤ length (now places)) × (length (now s) ≤ longestSheet) ⌝ }
+    requires { ⌜ (base + mostStatements ≤ length (now places)) × (length (now s) ≤ greatestPlace) ⌝ }
     ensures { λ r. ⌜ StatementsRead (readStatements (namesOf names) (now (s .entry)) at) base (now (places .entry)) (now (places .exit)) r ⌝ }
 {
     let mut n: usize = 0;

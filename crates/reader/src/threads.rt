@@ -12,10 +12,10 @@ use refusal::Refusal;
 ghost use mathlib.Core.Path.{_≡_};
 ghost use Prim.Native.Nat.{_+_, _*_, _≤_};
 ghost use lib.ListN.{length};
-ghost use Rattle.rules.specs.Constants.{longestSheet, mostThreads, mostStatements};
+ghost use Rattle.rules.specs.Constants.{mostThreads, mostStatements};
 ghost use Rattle.rules.specs.Format.{byte, readThread, readThreads};
 ghost use Rattle.reader.specs.Outcome.{failure};
-ghost use Rattle.reader.specs.Index.{ThreadRead, ThreadsRead, entryWith};
+ghost use Rattle.reader.specs.Index.{greatestPlace, ThreadRead, ThreadsRead, entryWith};
 
 pub const MOST_THREADS: usize = 4;
 
@@ -51,7 +51,7 @@ fn read_thread(
     places: &mut [u16],
     base: usize,
 ) -> Count
-    requires { ⌜ (base + mostStatements ≤ length (now places)) × (length (now s) ≤ longestSheet) ⌝ }
+    requires { ⌜ (base + mostStatements ≤ length (now places)) × (length (now s) ≤ greatestPlace) ⌝ }
     ensures { λ r. ⌜ ThreadRead (readThread vars locks (now (s .entry)) at) base (now (places .entry)) (now (places .exit)) r ⌝ }
 {
     let x = open_end(s, at);
@@ -81,7 +81,7 @@ fn read_thread(
 
 // The entry of a thread that was read: its field stands at p, and it has n statements.
 fn entry_at(s: &[u8], p: usize, n: usize) -> ThreadEntry
-    requires { ⌜ (p ≤ longestSheet) × (n ≤ mostStatements) ⌝ }
+    requires { ⌜ (p ≤ greatestPlace) × (n ≤ mostStatements) ⌝ }
     ensures { λ r. ⌜ r ≡ entryWith p (byte (now (s .entry)) (p + 3)) n ⌝ }
 {
     let registers = byte_at(s, p + 3);
@@ -100,7 +100,7 @@ pub(crate) fn read_threads(
     at: usize,
     places: &mut [u16],
 ) -> Threads
-    requires { ⌜ (mostThreads * mostStatements ≤ length (now places)) × (length (now s) ≤ longestSheet) ⌝ }
+    requires { ⌜ (mostThreads * mostStatements ≤ length (now places)) × (length (now s) ≤ greatestPlace) ⌝ }
     ensures { λ r. ⌜ ThreadsRead (readThreads vars locks (now (s .entry)) at) (now (places .entry)) (now (places .exit)) r ⌝ }
 {
     let none = ThreadEntry {

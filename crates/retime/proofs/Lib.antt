@@ -5,7 +5,6 @@ pub mod TimeBytes
 pub mod Retime
 pub mod Finding
 pub mod Changing
-pub mod Copied
 pub mod Previewing
 pub mod Made
 pub mod Worked

@@ -1,29 +1,29 @@
 -- What the program prints: written line by line, never longer than its buffer, and told by the first 16,385 bytes of a sheet and by
 -- numbers that are cut.
 use mathlib.Core.Path.{_≡_, refl, ap, _∙_}
-use mathlib.Core.List.{List, [], _∷_, _++_}
-use Prim.Native.Nat.{ℕ, _+_, _*_, _^_, _≤_, _<_}
+use mathlib.Core.List.{List, [], _++_}
+use Prim.Native.Nat.{ℕ, _+_, _^_, _≤_, _<_}
 use native.Mathlib.Omega.{arith}
 use borrow.Author.Tests.{le-leb, eq-eqb, ne-eqb}
 use lib.Dec.{leb, eqb}
 use lib.IntN.{ℤ}
 use lib.ListN.{length, length-append}
-use Rattle.rules.specs.Base.{Each, _&_}
+use Rattle.rules.specs.Base.{Each}
 use Rattle.rules.specs.Refusal.{number, outputFull, tooLong}
 use Rattle.rules.specs.Constants.{longestSheet, lentByProgram}
 use Rattle.rules.specs.Program.{Program}
 use Rattle.rules.specs.Format.{Bytes, Got, bad, got, need, andThen, readSheet}
 use Rattle.rules.specs.Search.{Answer, five, answerBy, answerWith, answer}
-use Rattle.rules.specs.Product.{decimal, line}
-use Rattle.rules.proofs.Base.{if-ind}
+use Rattle.rules.specs.Product.{line}
+use Rattle.rules.proofs.Base.{if-ind, each-map}
 use Rattle.rules.proofs.Longest.{told-by-front, sheet-too-long}
 use Rattle.reader.proofs.Facts.{program-facts}
-use Rattle.writing.specs.Out.{longestFive, outOf, write, Writes}
-use Rattle.writing.proofs.Written.{then-writes, text-then, fits-inside}
-use Rattle.writing.proofs.Decimal.{number-length}
+use Rattle.writing.specs.Out.{longestFive, outOf, write, Writes, lineOf}
+use Rattle.writing.proofs.Written.{then-writes, fits-inside}
+use Rattle.writing.proofs.Line.{line-length}
 use Rattle.retime.specs.Retime.{Change, noChange, Done, onStatement, changeTimes, changed, change, checked, previewAnswer, preview}
 use Rattle.retime.specs.TakeBack.{takenBack, takeBack}
-use Rattle.retime_main.specs.Line.{printed, longestPrinted, lineOf, sheetText, longestWritten, changeText, written, backText, writtenBack, EnoughRead, CutUnseen, CopyEnough}
+use Rattle.retime_main.specs.Line.{printed, longestPrinted, sheetText, longestWritten, changeText, written, backText, writtenBack, EnoughRead, CutUnseen, CopyEnough}
 use Rattle.retime_main.proofs.Cut.{change-cut, back-cut}
 
 -- ---- two lines
@@ -45,17 +45,7 @@ module _ (x y : Answer) (l₀ l₁ l₂ : Bytes) (p₁ p₂ : ℕ) (v : Writes (
   pub two-fit : length (line x) ≤ longestFive → length (line y) ≤ longestFive → longestPrinted ≤ length l₀ → p₂ ≤ length l₂
   two-fit a b h = fits-inside (line x ++ line y) l₀ l₂ p₂ both (omega (arith, length-append (line x) (line y)))
 
--- ---- a line of numbers, and a sheet behind it
-
--- one number more before the others
-pub number-then : (n m : ℕ) (ms : List ℕ) (l₀ l₁ l₂ : Bytes) (p₀ p₁ p₂ : ℕ) → Writes (decimal n ++ 32 ∷ []) l₀ p₀ l₁ p₁ → Writes (lineOf (m ∷ ms)) l₁ p₁ l₂ p₂
-    → Writes (lineOf (n ∷ m ∷ ms)) l₀ p₀ l₂ p₂
-unfolding lineOf
-number-then n m ms l₀ l₁ l₂ p₀ p₁ p₂ v w = text-then (decimal n) 32 (lineOf (m ∷ ms)) l₀ l₁ l₂ p₀ p₁ p₂ v w
-
-pub last-number : (n : ℕ) (l₀ l₁ : Bytes) (p₀ p₁ : ℕ) → Writes (decimal n ++ 10 ∷ []) l₀ p₀ l₁ p₁ → Writes (lineOf (n ∷ [])) l₀ p₀ l₁ p₁
-unfolding lineOf
-last-number n l₀ l₁ p₀ p₁ v = v
+-- ---- a sheet behind a line of numbers
 
 pub no-sheet : (r : ℕ) (s l : Bytes) (p : ℕ) → (r ≡ 0 → ⊥) → Writes (sheetText r s) l p l p
 unfolding sheetText write
@@ -65,23 +55,13 @@ pub that-sheet : (r : ℕ) (s l m : Bytes) (p q : ℕ) → r ≡ 0 → Writes s 
 unfolding sheetText
 that-sheet r s l m p q z w = rw (eq-eqb r 0 z) w
 
--- a number of 64 bits has at most twenty digits
-line-length : (ns : List ℕ) → Each (λ n. n < 2 ^ 64) ns → length (lineOf ns) ≤ 21 * length ns
-unfolding lineOf
-line-length [] f = omega arith
-line-length (n ∷ []) (h & f) = let x = number-length 19 n 10 [] (omega arith) in omega arith
-line-length (n ∷ m ∷ ms) (h & f) =
-    let x = number-length 19 n 32 (lineOf (m ∷ ms)) (omega arith) in
-    let y = line-length (m ∷ ms) f in
-    omega arith
-
--- at most eight such numbers and the sheet fit
+-- at most eight numbers of 64 bits, and the sheet, fit
 pub text-fits : (ns : List ℕ) → Each (λ n. n < 2 ^ 64) ns → length ns ≤ 8 → (r : ℕ) (s : Bytes) → length s ≤ longestSheet + 1 → (l m : Bytes) (p : ℕ)
     → longestWritten ≤ length l → Writes (lineOf ns ++ sheetText r s) l 0 m p → p ≤ length m
 unfolding sheetText
 text-fits ns f few r s short l m p room w =
     let rest = if-ind (eqb r 0) s [] (λ t. length t ≤ longestSheet + 1) (λ _. short) (λ _. omega arith) in
-    let x = line-length ns f in
+    let x = line-length 19 ns (each-map (λ n h. omega arith) f) in
     let y = length-append (lineOf ns) (sheetText r s) in
     fits-inside (lineOf ns ++ sheetText r s) l m p w (omega arith)
 

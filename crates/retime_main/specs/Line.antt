@@ -1,6 +1,6 @@
 -- What the program prints of a sheet: of new times for one of its statements, and of a change taken back.
 use mathlib.Core.Path.{_≡_}
-use mathlib.Core.List.{List, [], _∷_, _++_}
+use mathlib.Core.List.{[], _∷_, _++_}
 use Prim.Native.Nat.{ℕ, _+_}
 use lib.Dec.{eqb}
 use lib.ListN.{take}
@@ -8,8 +8,9 @@ use Rattle.rules.specs.Base.{if_then_else_}
 use Rattle.rules.specs.Constants.{longestSheet, lentByProgram}
 use Rattle.rules.specs.Format.{Bytes, AreBytes}
 use Rattle.rules.specs.Search.{answer}
-use Rattle.rules.specs.Product.{bytes, decimal, line}
+use Rattle.rules.specs.Product.{line}
 use Rattle.digits.specs.Digits.{cut}
+use Rattle.writing.specs.Out.{lineOf}
 use Rattle.retime.specs.Retime.{Change, Changed, changeTimes, change, checked, previewAnswer}
 use Rattle.retime.specs.TakeBack.{TakenBack, takeBack}
 use Rattle.retime.specs.Shape.{eight}
@@ -26,15 +27,8 @@ printed s t k least greatest =
 abbrev pub longestPrinted : ℕ
 longestPrinted = 130
 
--- ---- a line of numbers, and the sheet that is to be written behind it
+-- ---- the sheet that is to be written behind a line of numbers: none where it is refused
 
--- single spaces between the numbers, a newline at the end
-unfoldable pub lineOf : List ℕ → Bytes
-lineOf [] = []
-lineOf (n ∷ []) = decimal n ++ bytes "\n"
-lineOf (n ∷ m ∷ ms) = decimal n ++ (bytes " " ++ lineOf (m ∷ ms))
-
--- none where it is refused
 unfoldable pub sheetText : ℕ → Bytes → Bytes
 sheetText r s = if eqb r 0 then s else []
 

@@ -12,9 +12,9 @@ use writing::put_number;
 ghost use Prim.Native.Nat.{_+_, _≤_};
 ghost use lib.ListN.{length};
 ghost use Rattle.rules.specs.Constants.{longestSheet};
-ghost use Rattle.writing.specs.Out.{Writes};
+ghost use Rattle.writing.specs.Out.{Writes, lineOf};
 ghost use Rattle.retime.specs.Shape.{changeOf, eight};
-ghost use Rattle.retime_main.specs.Line.{lineOf, sheetText, longestPrinted, printed, longestWritten, written, writtenBack};
+ghost use Rattle.retime_main.specs.Line.{sheetText, longestPrinted, printed, longestWritten, written, writtenBack};
 
 // Numbers that are lent to each search, and bytes for the copy: as many as the longest sheet has.
 const LENT: usize = 12000;

@@ -339,12 +339,15 @@ threadHere s at = if eqb at (length s) then done else more
 unfoldable pub readThreads : ℕ → ℕ → Bytes → ℕ → Got (List Thread)
 readThreads vars locks s at = readMany (λ n p. threadHere s p) (λ p. readThread vars locks s p) mostThreads [] at
 
--- "9 comes first, place 0. Then fields in order"
-unfoldable pub readSheet : Bytes → Got Program
-readSheet s =
-    need (leb (length s) longestSheet) tooLong 0 (
+-- "Then fields in order", whatever the sheet's length
+abbrev pub readFields : Bytes → Got Program
+readFields s =
     andThen (readHeader s) (λ h p.
     andThen (readLocks s p) (λ k q.
     andThen (readVariables s q) (λ vs r.
     andThen (readThreads (length vs) k s r) (λ ts e.
-    got (record { header = h; locks = k; vars = vs; threads = ts }) e)))))
+    got (record { header = h; locks = k; vars = vs; threads = ts }) e))))
+
+-- "9 comes first, place 0."
+unfoldable pub readSheet : Bytes → Got Program
+readSheet s = need (leb (length s) longestSheet) tooLong 0 (readFields s)

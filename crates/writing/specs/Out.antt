@@ -1,11 +1,12 @@
 -- A lent buffer that is written from a place on. What does not fit is not written; the place is then one past the buffer's end.
 use mathlib.Core.Path.{_≡_}
-use mathlib.Core.List.{[], _∷_}
+use mathlib.Core.List.{List, [], _∷_, _++_}
 use Prim.Native.Nat.{ℕ, _+_}
 use lib.Dec.{ltb}
 use lib.ListN.{length, set}
 use Rattle.rules.specs.Base.{if_then_else_}
 use Rattle.rules.specs.Format.{Bytes}
+use Rattle.rules.specs.Product.{bytes, decimal}
 
 pub record Out : Type 0 where
   pub buffer : Bytes
@@ -32,3 +33,9 @@ Writes s l at m r = outOf m r ≡ write s (outOf l at)
 -- the longest line of five numbers: ten digits for each number of 32 bits, twenty for the place, and one byte behind each
 abbrev pub longestFive : ℕ
 longestFive = 65
+
+-- a line of numbers: single spaces between them, a newline at the end
+unfoldable pub lineOf : List ℕ → Bytes
+lineOf [] = []
+lineOf (n ∷ []) = decimal n ++ bytes "\n"
+lineOf (n ∷ m ∷ ms) = decimal n ++ (bytes " " ++ lineOf (m ∷ ms))

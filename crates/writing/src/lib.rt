@@ -2,7 +2,8 @@
 // is not written, and the place is then one past the buffer's end, where every later writer leaves it.
 ghost use mathlib.Core.Path.{_≡_};
 ghost use mathlib.Core.List.{[], _∷_, _++_};
-ghost use Prim.Native.Nat.{_+_, _%_};
+ghost use Prim.Native.Nat.{_+_, _-_, _%_};
+ghost use lib.ListN.{length, replicate};
 ghost use Rattle.rules.specs.Search.{five};
 ghost use Rattle.rules.specs.Product.{decimal, line};
 ghost use Rattle.writing.specs.Out.{Writes};
@@ -72,6 +73,18 @@ pub fn put_bytes(out: &mut [u8], from: usize, bytes: &[u8]) -> usize
     while i < bytes.len() {
         at = put(out, at, bytes[i]);
         i += 1;
+    }
+    at
+}
+
+// Zeros up to the buffer's end.
+pub fn put_zeros(out: &mut [u8], from: usize) -> usize
+    ensures { λ r. ⌜ Writes (replicate (length (now (out .entry)) - from) 0) (now (out .entry)) from (now (out .exit)) r ⌝ }
+{
+    let mut at = from;
+    while at < out.len() {
+        out[at] = 0;
+        at += 1;
     }
     at
 }

@@ -1,11 +1,11 @@
 -- A field of any tag: where it ends does not hang on what is read in it; and one whose body may have any length.
 use mathlib.Core.Path.{_≡_, refl, sym, ap, _∙_}
-use mathlib.Core.Bool.{Bool}
+use mathlib.Core.Bool.{Bool, true, false, _&&_}
 use Prim.Native.Nat.{ℕ, _+_, _<_, _≤_}
 use lib.ListN.{length}
 use borrow.Author.Tests.{le-leb, lt-leb}
 use Rattle.rules.specs.Refusal.{short, outOfTurn, badLength, offRange}
-use Rattle.rules.specs.Format.{Bytes, num16, Got, got, need, hasBody, due, sized}
+use Rattle.rules.specs.Format.{Bytes, num16, Got, got, need, hasHead, hasBody, due, sized}
 use Rattle.refusal.specs.declared.Refusal.the-variants.{Short}
 use Rattle.reader.specs.declared.outcome.End.the-variants.{At, Refused}
 use Rattle.reader.specs.Outcome.{endOf}
@@ -32,3 +32,12 @@ module _ (s : Bytes) (at : ℕ) {n : ℕ} (e : n ≡ num16 s (at + 1)) where
   pub any-whole : at + 3 + n ≤ length s → At (at + 3 + n) ≡ endOf (need (hasBody s at) short at (got at (bodyEnd s at)))
   unfolding endOf
   any-whole h = need-yes _ _ _ _ (sym (body-is s at n e) ∙ le-leb (at + 3 + n) (length s) h) (ap (λ (k : ℕ). At (at + 3 + k)) e)
+
+-- ---- whether a whole one stands there
+
+module _ (s : Bytes) (at : ℕ) {f : Bool} (e : f ≡ hasHead s at) where
+  pub whole-head : {r : Bool} → f ≡ true → r ≡ hasBody s at → r ≡ (hasHead s at && hasBody s at)
+  whole-head t b = b ∙ ap (λ (h : Bool). h && hasBody s at) (sym t ∙ e)
+
+  pub whole-none : f ≡ false → false ≡ (hasHead s at && hasBody s at)
+  whole-none t = ap (λ (h : Bool). h && hasBody s at) (sym t ∙ e)

@@ -1,20 +1,16 @@
 -- `reader::read_sheet` meets its contract. Assumes nothing.
 use borrow.Author.Needs.{needs}
-use Rattle.reader.proofs.Sheet.{sheet-long, sheet-walked}
+use mathlib.Core.Path.{ap, _∙_}
+use Rattle.reader.specs.Index.{indexOf}
+use Rattle.reader.proofs.Sheet.{up-to-longest}
 use Rattle.reader.proofs.read_sheet.Statement.{statement}
 use Rattle.reader.proofs.read_sheet.Tie as tie
 
-refused-requires : tie.Need-refused-requires
-refused-requires c κs = search needs
+read-up-to-requires : tie.Need-read-up-to-requires
+read-up-to-requires c κs = search needs
 
 returns : tie.Need-returns
-returns c = sheet-long _ (c .before .if1 .taken) (c .refused .ensures)
-
-walk-sheet-requires : tie.Need-walk-sheet-requires
-walk-sheet-requires c κs = search needs
-
-returns-2 : tie.Need-returns-2
-returns-2 c = sheet-walked _ (c .before .if1 .left) (c .walk-sheet .ensures)
+returns c = c .read-up-to .ensures ∙ ap indexOf (up-to-longest _)
 
 pub read-sheet-spec : {M : Type 1} → statement M
-read-sheet-spec = tie.close (tie.spec refused-requires returns walk-sheet-requires returns-2)
+read-sheet-spec = tie.close (tie.spec read-up-to-requires returns)

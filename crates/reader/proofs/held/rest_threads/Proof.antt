@@ -38,7 +38,7 @@ use denote.Triple.Table.{entered, cited}
 use denote.Triple.Walked.{says, needs, Stays, stay-none, walkOf, goes-none, ends-at, walked, walk-meets}
 use denote.Triple.Clauses.{ensured, lasts}
 use denote.Exit.{yes}
-use Rattle.rules.specs.Constants.{longestSheet}
+use Rattle.reader.specs.Index.{greatestPlace}
 use Rattle.reader.specs.declared.held.Reader.{Reader}
 use Rattle.reader.specs.declared.parts.Progress.{Progress}
 use Rattle.reader.specs.declared.Index.{Index}
@@ -83,11 +83,11 @@ module _ {M : Type 1} (𝓤 : URA M) (H : Heap 𝓤) (A : Atoms 𝓤) (W : Given
   abbrev to : IndexFrom 𝓤 H A mem run .Ghost
   to = (((κ, tt), (q, tt), tt, (d .sheet, (d .at, (m, tt))), passed), tt)
 
-  asked : length (now (d .sheet)) ≤ longestSheet → ent 𝓤 (onEntry 𝓤 H A index-from.signature (κ, tt) (q, tt) (d .sheet, (d .at, (m, tt))) passed) (IndexFrom 𝓤 H A mem run .pre to)
+  asked : length (now (d .sheet)) ≤ greatestPlace → ent 𝓤 (onEntry 𝓤 H A index-from.signature (κ, tt) (q, tt) (d .sheet, (d .at, (m, tt))) passed) (IndexFrom 𝓤 H A mem run .pre to)
   asked short = qed W ((‵ (flft κ q) ⊛ ‵ ftrue) ∷ ‵ (owns (ShrSlice (named 0) κ u8 ∷ usize ∷ P.the-row ∷ []) (d .sheet, (d .at, (m, tt))) passed) ∷ []) ∵ says ! short $ frame ! $ done !
 
   -- what the parameters own gives what the callee asks, and what the reader owns is kept
-  apart : d .at < 2 ^ 64 → length (now (d .sheet)) ≤ longestSheet → ent 𝓤 (onEntry 𝓤 H A rest-threads.signature (κ, tt) (q, tt) (d, (m, tt)) vals) (sep 𝓤 (IndexFrom 𝓤 H A mem run .pre to) (sem 𝓤 H A (Own κ d)))
+  apart : d .at < 2 ^ 64 → length (now (d .sheet)) ≤ greatestPlace → ent 𝓤 (onEntry 𝓤 H A rest-threads.signature (κ, tt) (q, tt) (d, (m, tt)) vals) (sep 𝓤 (IndexFrom 𝓤 H A mem run .pre to) (sem 𝓤 H A (Own κ d)))
   apart fits short =
       qed W ((‵ (flft κ q) ⊛ ‵ ftrue) ∷ ‵ (owns (Readers (κ, tt) ∷ P.the-row ∷ []) (d, (m, tt)) vals) ∷ []) ∵
       move ! (1 ∷ []) $ fsplit ! $ use1 W (‵ (OwnSheet κ (d .sheet)) ⊛ ‵ (Own κ d)) (sheet-too κ 𝓤 H A W d) $ split ! $
@@ -105,7 +105,7 @@ module _ {M : Type 1} (𝓤 : URA M) (H : Heap 𝓤) (A : Atoms 𝓤) (W : Given
       move ! (1 ∷ []) $ frame ! $ nothing ! $ owned ! P.the-row (Is P.the-row) (EL.makes P.the-type P′.the-plain 𝓤 H A) m _ is-m $ fjoin ! $ move ! (2 ∷ 0 ∷ []) $ fjoin ! $ frame ! $ done !
 
   module _ (C : Calls 𝓤 H) (Λ : Loops 𝓤 H) (fm : FmC 𝓤 H (W .laws) C) (known : Triple 𝓤 (C #index-from) (IndexFrom 𝓤 H A mem run)) where
-    walk : Is (Readers (κ, tt)) d (T′.lowered d ∷ []) → Holds (hasTy (T′.mir (named 0)) (T′.lowered d)) × WT (T′.lowered d) → Is P.the-row m (progress-val m ∷ []) → length (now (d .sheet)) ≤ longestSheet
+    walk : Is (Readers (κ, tt)) d (T′.lowered d ∷ []) → Holds (hasTy (T′.mir (named 0)) (T′.lowered d)) × WT (T′.lowered d) → Is P.the-row m (progress-val m ∷ []) → length (now (d .sheet)) ≤ greatestPlace
         → ent 𝓤 (onEntry 𝓤 H A rest-threads.signature (κ, tt) (q, tt) (d, (m, tt)) vals) (WpFn 𝓤 H C Λ code.function (T′.lowered d ∷ progress-val m ∷ []) Post)
     walk is-d wt is-m short =
         qed W (raw (onEntry 𝓤 H A rest-threads.signature (κ, tt) (q, tt) (d, (m, tt)) vals) ∷ []) ∵ enter ! C Λ code.function (T′.lowered d ∷ progress-val m ∷ []) _ $
@@ -129,7 +129,7 @@ meets 𝓤 H A W mem run 𝓣 known =
     (WpFn 𝓤 H (𝓣 .C) (𝓣 .Λ) code.function) (WpFn-mono 𝓤 H (W .laws) 𝓣 code.function)
     (walked 𝓤 H A rest-threads.ended stayed (rest-threads.clauses 𝓤 H A mem run) (WpFn 𝓤 H (𝓣 .C) (𝓣 .Λ) code.function)
     (λ κs. (LL.vals (declared κs) (laws κs), (EL.vals P.the-type P′.the-laws, tt))) (λ κs. (LL.tells (declared κs) (laws κs), (EL.tells P.the-type P′.the-laws, tt)))
-    (λ κs qs bounds a g are. needs 𝓤 (length (now (a .0 .sheet)) ≤ longestSheet) _ (λ short.
+    (λ κs qs bounds a g are. needs 𝓤 (length (now (a .0 .sheet)) ≤ greatestPlace) _ (λ short.
     walk 𝓤 H A W mem run (κs .0) (qs .0) (a .0) (a .1 .0) (𝓣 .C) (𝓣 .Λ) (fmOf 𝓤 H (W .laws) 𝓣) known (are .0) (LL.lawful (declared κs) (laws κs) 𝓤 H A W .typed (a .0) _ (are .0) .0) (are .1 .0) short)))
 
 pub rest-threads-spec : {M : Type 1} → stated.statement M

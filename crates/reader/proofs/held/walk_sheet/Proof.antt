@@ -38,7 +38,7 @@ use denote.Triple.Table.{entered, cited}
 use denote.Triple.Walked.{says, needs, Stays, stay-none-slice, walkOf, goes-none-slice, ends-at, walked, walk-meets}
 use denote.Triple.Clauses.{ensured, lasts}
 use denote.Exit.{yes}
-use Rattle.rules.specs.Constants.{longestSheet}
+use Rattle.reader.specs.Index.{greatestPlace}
 use Rattle.reader.specs.declared.held.Reader.{Reader}
 use Rattle.reader.specs.declared.held.ReadOn.{ReadOn}
 use Rattle.reader.specs.declared.Index.{Index}
@@ -152,10 +152,10 @@ module _ {M : Type 1} (𝓤 : URA M) (H : Heap 𝓤) (A : Atoms 𝓤) (W : Given
   abbrev to-threads : RestThreads 𝓤 H A mem run .Ghost
   to-threads = (((κ, tt), (q, tt), tt, (variables .rest, (variables .progress, tt)), (T′.lowered (variables .rest) ∷ [], (progress-val (variables .progress) ∷ [], tt))), tt)
 
-  asks-threads : length (now s) ≤ longestSheet → ent 𝓤 (onEntry 𝓤 H A rest-threads.signature (κ, tt) (q, tt) (variables .rest, (variables .progress, tt)) (to-threads .0 .4)) (RestThreads 𝓤 H A mem run .pre to-threads)
+  asks-threads : length (now s) ≤ greatestPlace → ent 𝓤 (onEntry 𝓤 H A rest-threads.signature (κ, tt) (q, tt) (variables .rest, (variables .progress, tt)) (to-threads .0 .4)) (RestThreads 𝓤 H A mem run .pre to-threads)
   asks-threads short = qed W ((‵ (flft κ q) ⊛ ‵ ftrue) ∷ ‵ (OwnNext κ variables) ∷ []) ∵ says ! short $ frame ! $ done !
 
-  goes-threads : length (now s) ≤ longestSheet → ent 𝓤 (⋆ 𝓤 H A (‵ (OwnRead κ variables) ∷ (‵ (flft κ q) ⊛ ‵ ftrue) ∷ [])) (RestThreads 𝓤 H A mem run .pre to-threads)
+  goes-threads : length (now s) ≤ greatestPlace → ent 𝓤 (⋆ 𝓤 H A (‵ (OwnRead κ variables) ∷ (‵ (flft κ q) ⊛ ‵ ftrue) ∷ [])) (RestThreads 𝓤 H A mem run .pre to-threads)
   goes-threads short = qed W (‵ (OwnRead κ variables) ∷ (‵ (flft κ q) ⊛ ‵ ftrue) ∷ []) ∵ use1 W (‵ (OwnNext κ variables)) (opens κ 𝓤 H A W variables) $ move ! (1 ∷ 0 ∷ []) $ by ! (asks-threads short)
 
   threads-said : (x : Index) → ent 𝓤 (ensured 𝓤 H A rest-threads.ended (rest-threads.clauses 𝓤 H A mem run) (κ, tt) (variables .rest, (variables .progress, tt)) tt x) (fact 𝓤 (x ≡ threads))
@@ -171,7 +171,7 @@ module _ {M : Type 1} (𝓤 : URA M) (H : Heap 𝓤) (A : Atoms 𝓤) (W : Given
 
   module _ (C : Calls 𝓤 H) (Λ : Loops 𝓤 H) (fm : FmC 𝓤 H (W .laws) C) (known-header : Triple 𝓤 (C #next-header) (NextHeader 𝓤 H A mem run)) (known-locks : Triple 𝓤 (C #next-locks) (NextLocks 𝓤 H A mem run))
       (known-variables : Triple 𝓤 (C #next-variables) (NextVariables 𝓤 H A mem run)) (known-threads : Triple 𝓤 (C #rest-threads) (RestThreads 𝓤 H A mem run)) where
-    walk : Is (ShrSlice (named 0) κ u8) s (fat-pointer s ∷ []) → length (now s) ≤ longestSheet → ent 𝓤 (onEntry 𝓤 H A walk-sheet.signature (κ, tt) (q, tt) (s, tt) vals) (WpFn 𝓤 H C Λ code.function (fat-pointer s ∷ []) Post)
+    walk : Is (ShrSlice (named 0) κ u8) s (fat-pointer s ∷ []) → length (now s) ≤ greatestPlace → ent 𝓤 (onEntry 𝓤 H A walk-sheet.signature (κ, tt) (q, tt) (s, tt) vals) (WpFn 𝓤 H C Λ code.function (fat-pointer s ∷ []) Post)
     walk is-slice short =
         let typed = shr-slice-lawful 𝓤 H A W (named 0) κ u8 .typed s (fat-pointer s ∷ []) is-slice .0 in
         qed W (raw (onEntry 𝓤 H A walk-sheet.signature (κ, tt) (q, tt) (s, tt) vals) ∷ []) ∵ enter ! C Λ code.function (fat-pointer s ∷ []) _ $
@@ -234,7 +234,7 @@ meets 𝓤 H A W mem run 𝓣 known-header known-locks known-variables known-thr
     walk-meets 𝓤 H A walk-sheet.ended stayed W (goes-none-slice 𝓤 H A W 1 (0 ∷ []) tt (plain (λ _. u8)) yes, tt) (walk-sheet.clauses 𝓤 H A mem run)
     (WpFn 𝓤 H (𝓣 .C) (𝓣 .Λ) code.function) (WpFn-mono 𝓤 H (W .laws) 𝓣 code.function)
     (walked 𝓤 H A walk-sheet.ended stayed (walk-sheet.clauses 𝓤 H A mem run) (WpFn 𝓤 H (𝓣 .C) (𝓣 .Λ) code.function) (λ κs. (slice-vals, tt)) (λ κs. (shr-slice-tells (named 0) (κs .0) u8, tt))
-    (λ κs qs bounds a g are. needs 𝓤 (length (now (a .0)) ≤ longestSheet) _ (λ short.
+    (λ κs qs bounds a g are. needs 𝓤 (length (now (a .0)) ≤ greatestPlace) _ (λ short.
     walk 𝓤 H A W mem run (κs .0) (qs .0) (a .0) (𝓣 .C) (𝓣 .Λ) (fmOf 𝓤 H (W .laws) 𝓣) known-header known-locks known-variables known-threads (are .0) short)))
 
 pub walk-sheet-spec : {M : Type 1} → stated.statement M

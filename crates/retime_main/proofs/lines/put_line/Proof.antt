@@ -1,5 +1,5 @@
 -- `retime_main::lines::put_line` meets its contract. Assumes nothing.
-use Rattle.retime_main.proofs.Laws.{number-then, last-number}
+use Rattle.writing.proofs.Line.{number-then, last-number}
 use borrow.Author.Needs.{needs}
 use Rattle.retime_main.proofs.lines.put_line.Statement.{statement}
 use Rattle.retime_main.proofs.lines.put_line.Tie as tie

@@ -7,7 +7,8 @@ use Rattle.writing.specs.Out.{outOf, write}
 use Rattle.writing.proofs.Written.{then-writes}
 use Rattle.retime.specs.TakeBack.{TakenBack}
 use Rattle.retime_main.specs.Line.{backText, writtenBack}
-use Rattle.retime_main.proofs.Laws.{number-then, last-number, text-fits}
+use Rattle.writing.proofs.Line.{number-then, last-number}
+use Rattle.retime_main.proofs.Laws.{text-fits}
 use borrow.Author.Needs.{needs}
 use Rattle.retime_main.proofs.lines.take_back_in.Statement.{statement}
 use Rattle.retime_main.proofs.lines.take_back_in.Tie as tie

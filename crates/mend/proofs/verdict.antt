@@ -1,0 +1,2 @@
+-- What the proof of `judge` cites.
+pub mod Laws

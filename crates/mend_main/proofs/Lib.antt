@@ -1,0 +1,2 @@
+-- Laws of the texts that the program gives.
+pub mod Laws

@@ -1,0 +1,2 @@
+-- What the program's functions are measured against.
+pub mod Text

@@ -1,0 +1,34 @@
+-- A line of numbers: written one behind the other, and its length.
+use mathlib.Core.Path.{_≡_}
+use mathlib.Core.List.{List, [], _∷_, _++_}
+use Prim.Native.Nat.{ℕ, suc, _+_, _*_, _^_, _≤_, _<_}
+use native.Mathlib.Nat.{mul-suc}
+use native.Mathlib.Omega.{arith}
+use lib.ListN.{length}
+use Rattle.rules.specs.Base.{Each, _&_}
+use Rattle.rules.specs.Format.{Bytes}
+use Rattle.rules.specs.Product.{decimal}
+use Rattle.writing.specs.Out.{Writes, lineOf}
+use Rattle.writing.proofs.Written.{text-then}
+use Rattle.writing.proofs.Decimal.{number-length}
+
+-- one number more before the others
+pub number-then : (n m : ℕ) (ms : List ℕ) (l₀ l₁ l₂ : Bytes) (p₀ p₁ p₂ : ℕ) → Writes (decimal n ++ 32 ∷ []) l₀ p₀ l₁ p₁ → Writes (lineOf (m ∷ ms)) l₁ p₁ l₂ p₂
+    → Writes (lineOf (n ∷ m ∷ ms)) l₀ p₀ l₂ p₂
+unfolding lineOf
+number-then n m ms l₀ l₁ l₂ p₀ p₁ p₂ v w = text-then (decimal n) 32 (lineOf (m ∷ ms)) l₀ l₁ l₂ p₀ p₁ p₂ v w
+
+pub last-number : (n : ℕ) (l₀ l₁ : Bytes) (p₀ p₁ : ℕ) → Writes (decimal n ++ 10 ∷ []) l₀ p₀ l₁ p₁ → Writes (lineOf (n ∷ [])) l₀ p₀ l₁ p₁
+unfolding lineOf
+last-number n l₀ l₁ p₀ p₁ v = v
+
+-- numbers of at most k + 1 digits, and one byte behind each
+pub line-length : (k : ℕ) (ns : List ℕ) → Each (λ n. n < 10 ^ suc k) ns → length (lineOf ns) ≤ (k + 2) * length ns
+unfolding lineOf
+line-length k [] f = omega arith
+line-length k (n ∷ []) (h & f) = let x = number-length k n 10 [] h in omega arith
+line-length k (n ∷ m ∷ ms) (h & f) =
+    let x = number-length k n 32 (lineOf (m ∷ ms)) h in
+    let y = line-length k (m ∷ ms) f in
+    let z : (k + 2) * suc (length (m ∷ ms)) ≡ (k + 2) * length (m ∷ ms) + (k + 2) = mul-suc (k + 2) (length (m ∷ ms)) in
+    omega arith
