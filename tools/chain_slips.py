@@ -16,10 +16,7 @@ from chain_text import (BACK, COMPARED, DID, GREATEST, LEAST, MADE, NAMED, OLD, 
                         SHOWN, SHOWN_HIGH_FIRST, SINCE, THREAD, TIMES, WRITE, ZEROS)
 from slips import Program
 
-MODULES = ("chains", "chain_cases", "chain_corpus", "chain_histogram", "chain_never", "chain_orders", "chain_plant", "chain_random",
-           "chain_sheets", "chain_steps", "chain_written", "retime_asked", "retime_sheets", "field", "sheet_parts", "sheet_reads",
-           "command_line", "entries", "fault_pairs", "generator", "oracle", "random")
-CHAINS = Program("chains", MODULES, "--edition", "2021", edited=("retime_change", "retime_back"))
+CHAINS = Program("chains", "--edition", "2021", edited=("retime_change", "retime_back"))
 
 slip, same = CHAINS.slip, CHAINS.same
 

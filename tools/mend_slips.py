@@ -7,8 +7,6 @@ Works as slips.py does, on tools/mend_sheet.rs and tools/mend_answer.rs. A secon
 rule in other words. Exit status 0 if every slip is noticed and no change of words is.
 """
 
-import os
-import re
 import sys
 import tempfile
 
@@ -17,22 +15,9 @@ sys.dont_write_bytecode = True
 from mend_text import (ACCEPTED, ADD, AT_FIRST, BYTES, CLOSES, CLOSING, COUNTED, CROSSED, EXCHANGE, FIELD, FOLD, HALT_FIELD, KINDS, LENGTH,
                        LIST_EXCHANGE, LIST_HALT, LIST_TAIL, LONGER, MEND, MENDED, OF_LABEL, OF_RANGE, OF_TIMES, OPEN, PLACE, READER, REFUSED,
                        REST, SPACE, TAIL, TOLD, UNCOUNTED, WHOLE)
-from slips import TOOLS, Program
+from slips import Program
 
-EDITED = ("mend_sheet", "mend_answer")
-
-
-def modules(name):
-    """The files of a program: its own and, by their `mod` lines, those of its modules; not those of its tests."""
-    with open(os.path.join(TOOLS, f"{name}.rs"), encoding="utf-8") as file:
-        text = file.read()
-    found = {name}
-    for module in re.findall(r"^mod (\w+);", re.sub(r"#\[cfg\(test\)\]\nmod \w+;", "", text), re.MULTILINE):
-        found |= modules(module)
-    return found
-
-
-MENDS = Program("mends", sorted(modules("mends") - set(EDITED)), "--edition", "2021", edited=EDITED)
+MENDS = Program("mends", "--edition", "2021", edited=("mend_sheet", "mend_answer"))
 
 slip, same = MENDS.slip, MENDS.same
 

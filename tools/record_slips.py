@@ -19,9 +19,7 @@ from field_text import BODY_SHORT, FITTING, HEADER_SHORT, LENGTH, TAG
 from slips import Program
 
 EDITED = ("record_follow", "record_rule", "field")
-MODULES = ("records", "record_cases", "record_corpus", "record_damage", "record_faults", "record_runs", "record_sheet", "record_sheets",
-           "sheet_parts", "sheet_reads", "command_line", "entries", "generator", "oracle", "random")
-RECORDS = Program("records", MODULES, "--edition", "2021", edited=EDITED)
+RECORDS = Program("records", "--edition", "2021", edited=EDITED)
 
 slip, same = RECORDS.slip, RECORDS.same
 

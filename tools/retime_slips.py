@@ -16,9 +16,7 @@ from retime_text import (CHANGE, CHECK, COPY, FOUND, GREATEST, LEAST, NAMED, NUM
                          READS, REFUSE, REFUSED, STATEMENT, THREAD, THREADS, TIMES)
 from slips import Program
 
-MODULES = ("retimes", "retime_asked", "retime_back", "retime_cases", "retime_corpus", "retime_histogram", "retime_random", "retime_sheets", "record_sheets",
-           "field", "sheet_parts", "sheet_reads", "command_line", "entries", "fault_pairs", "generator", "oracle", "random")
-RETIMES = Program("retimes", MODULES, "--edition", "2021", edited=("retime_change",))
+RETIMES = Program("retimes", "--edition", "2021", edited=("retime_change",))
 
 slip, same = RETIMES.slip, RETIMES.same
 

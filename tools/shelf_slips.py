@@ -17,8 +17,7 @@ sys.dont_write_bytecode = True
 from field_text import BODY, BODY_SHORT, FITTING, HEADER_SHORT, LENGTH, TAG
 from slips import Program
 
-MODULES = ("command_line", "entries", "lookup_cases", "lookup_corpus", "lookup_files", "lookup_random", "random")
-SHELVES = Program("shelves", MODULES, "--edition", "2021", edited=("shelves", "field"))
+SHELVES = Program("shelves", "--edition", "2021", edited=("shelves", "field"))
 
 slip, same = SHELVES.slip, SHELVES.same
 

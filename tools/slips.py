@@ -33,14 +33,25 @@ def edited(text, name, edits):
     return text
 
 
+def modules(name):
+    """The files of a program: its own and, by their `mod` lines, those of its modules; not those of its tests."""
+    with open(os.path.join(TOOLS, f"{name}.rs"), encoding="utf-8") as file:
+        text = file.read()
+    found = {name}
+    for module in re.findall(r"^mod (\w+);", re.sub(r"#\[cfg\(test\)\]\nmod \w+;", "", text), re.MULTILINE):
+        found |= modules(module)
+    return found
+
+
 class Program:
     """A program of tools/ that answers a corpus, and the changes of its text that are tried."""
 
-    def __init__(self, name, modules, *options, edited=()):
+    def __init__(self, name, *options, edited=()):
         """The program's own file is edited, or the modules that are named so; `text` is theirs, one behind the other."""
-        self.name, self.modules, self.options = name, modules, options  # options of the compiler
+        self.name, self.options = name, options  # options of the compiler
         self.slips, self.same_rules = [], []
         self.edited = edited or (name,)
+        self.modules = sorted(modules(name) - set(self.edited))
         texts = []
         for part in self.edited:
             with open(os.path.join(TOOLS, f"{part}.rs"), encoding="utf-8") as file:
@@ -109,7 +120,7 @@ class Program:
         return told, noticed == [slips, 0]
 
 
-ORACLE = Program("oracle", ["random"])
+ORACLE = Program("oracle")
 REACHED = []
 
 slip, same = ORACLE.slip, ORACLE.same
