@@ -12,8 +12,8 @@ ROOT = os.path.dirname(os.path.dirname(os.path.realpath(__file__)))
 B = bytes.fromhex("010010 0000000A 00000064 00000002 00000003 030001 00 040001 00 060005 0002 0003 01 060005 0000 0000 00")
 
 # the modules of the command
-PARTS = ("sheet", "fields", "given", "programs", "usages", "words")
-PARTS += ("checker", "lookup", "follower", "times", "preview", "take_back", "mend")
+PARTS = ("fields", "given", "mark", "options", "programs", "usages", "words")
+PARTS += ("checker", "lookup", "follower", "times", "preview", "take_back", "mend", "convert")
 
 counts = {True: 0, False: 0}  # what held, and what did not
 
@@ -90,6 +90,25 @@ def copied(folder):
     for name in PARTS:
         shutil.copy(os.path.join(ROOT, "tools", f"{name}.py"), os.path.join(copy, "tools"))
     crates = "label:\nlabel_main: label io # a comment\nshelf_main: io\nrecord_main: io\nretime_main: io\nmend_main: io\n"
+    crates += "text_main: io\n"
     in_folder(copy, "crates.txt", crates.encode())
     in_folder(copy, os.path.join("crates", "label", "src", "lib.rt"), b"")
     return copy
+
+
+class StandIn:
+    """A program of a copy of the command. It keeps what it is given, and answers what it is told to."""
+
+    def __init__(self, folder, copy, name):
+        self.folder = os.path.join(folder, f"stand-in for {name}")
+        os.makedirs(self.folder, exist_ok=True)
+        self.copy, self.path = copy, os.path.join(copy, "target", "bin", name)
+
+    def answers(self, out, err):
+        in_folder(self.folder, "out", out)
+        in_folder(self.folder, "err", err.encode())
+        stand_in(self.path, f"cd '{self.folder}'\ncat > seen\ncat out\ncat err >&2\n")
+
+    def was_given(self, given):
+        with open(os.path.join(self.folder, "seen"), "rb") as file:
+            expect("the program is given the bytes", file.read() == given)

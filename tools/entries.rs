@@ -1,6 +1,7 @@
-//! What the corpora of lookups, of records, of new times, of chains and of mends have in common: entries of
-//! two files each, with the numbers that are due for them. lookup_corpus.rs, record_corpus.rs, retime_corpus.rs,
-//! chain_corpus.rs and mend_corpus.rs say what stands in an entry's front. Numbers have the high byte first:
+//! What the corpora of lookups, of records, of new times, of chains, of mends and of texts have in common: entries
+//! of two files each, with the numbers that are due for them. lookup_corpus.rs, record_corpus.rs, retime_corpus.rs,
+//! chain_corpus.rs, mend_corpus.rs and text_corpus.rs say what stands in an entry's front. Numbers have the high
+//! byte first:
 //!
 //!     entries                       4 bytes
 //!     then for each entry

@@ -1,5 +1,5 @@
 //! In how many of all two faults stand together, and in how many one stands alone: a table that the
-//! histograms of new times, of chains and of mends print.
+//! histograms of new times, of chains, of mends and of texts print.
 
 pub fn pairs<const N: usize>(names: [&str; N], all: &[[bool; N]]) {
     println!("| fault | alone | with {} |", names[1..].join(" | with "));

@@ -1,5 +1,5 @@
 //! Fields of a tag, a length and a body: how one is made, and where the body of one that is due
-//! stands. A module of shelves.rs, records.rs, retimes.rs, chains.rs and mends.rs.
+//! stands. A module of shelves.rs, records.rs, retimes.rs, chains.rs, mends.rs and texts.rs.
 
 use std::ops::Range;
 

@@ -1,5 +1,6 @@
 """The fields of a sheet, or of a file of sheets with names: a tag of one byte, a length of two, then so many bytes."""
 
+import struct
 from typing import NamedTuple, Optional
 
 
@@ -10,6 +11,11 @@ class Field(NamedTuple):
     tag: Optional[int]
     words: str
     due: str  # what is due there
+
+
+def field(tag, body):
+    """The bytes of a field."""
+    return struct.pack(">BH", tag, len(body)) + body
 
 
 def heads(given):

@@ -3,8 +3,9 @@ the papers."""
 
 import struct
 
+from any_sheet import assemble
 from calls import B
-from sheet import assemble, field
+from fields import field
 
 
 def sheet_of(body, label="0..10", locks=0):

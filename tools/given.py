@@ -1,20 +1,20 @@
-"""The files that a person names: their bytes, the sheet that a text tells, other bytes for one, a new one, its name for a shell."""
+"""The files that a person names: their bytes, whether they are a text, other bytes for one, a new one, its name for a shell."""
 
 import contextlib
 import os
 import re
 import shlex
 import stat
+import sys
 import tempfile
 
-import sheet as notation
+from options import FORMS
 from programs import CannotRun, reason
 
-# A file longer than this is not read to its end. A sheet has at most 16,384 bytes, and its text a tenth of this.
-# The program that looks for a name reads no longer file either.
-MOST_READ = 1_000_000
+# A file longer than this is not read to its end: the converter takes no longer text, and a sheet has at most 16,384 bytes.
+MOST_READ = 1_048_576
 
-FORMS = {"--text", "--bytes"}
+CONTROL = re.compile(rb"[\x00-\x08\x0b\x0c\x0e-\x1f\x7f]")
 
 
 def read(name):
@@ -26,33 +26,30 @@ def read(name):
         raise CannotRun(f"{name}: {reason(error)}") from None
 
 
-def whole(name, given, kind):
-    """The bytes of a file, if they were read to their end."""
-    if len(given) > MOST_READ:
-        raise CannotRun(f"{name}: a {kind} of more than {MOST_READ:,} bytes is not read")
+def whole(name, given, kind, most=MOST_READ):
+    """The bytes of a file, if they are no more than may be."""
+    if len(given) > most:
+        raise CannotRun(f"{name}: a {kind} of more than {most:,} bytes is not read")
     return given
 
 
-def one_form(options):
-    if FORMS <= options:
-        raise CannotRun("a file is either text or bytes: --text and --bytes do not go together")
+def is_text(given):
+    """Whether a file's bytes are taken for a text: it is not empty and holds no control characters but tabs and line
+    ends. (The bytes of a sheet begin with a control character, byte 1.)"""
+    return bool(given) and not CONTROL.search(given)
 
 
 class Given:
-    """A sheet that was given: its bytes and, if it came as text, the lines and where the fields stand in them."""
+    """A sheet that was given: its bytes or, if it was typed, the text. The proved converter makes the bytes of that one, or
+    refuses it (convert.py)."""
 
     def __init__(self, name, given, options):
-        self.name, self.sheet, self.text, self.places = name, given, [], []
+        self.name, self.sheet, self.typed = name, given, None
+        self.text, self.places = [], []  # the lines of a text that is converted, and where the fields stand in them
+        self.refused = None  # what the converter answers to a text that it refuses
         self.forced = bool(options & FORMS)
-        if "--text" in options or (not self.forced and notation.is_text(given)):
-            self.assemble(whole(name, given, "text"))
-
-    def assemble(self, given):
-        self.text = notation.lines_of(given)
-        try:
-            self.sheet, self.places = notation.assemble_with_lines(self.text)
-        except notation.SheetError as error:
-            raise CannotRun(f"{self.name}: {str(error)[:200]}") from None
+        if "--text" in options or (not self.forced and is_text(given)):
+            self.sheet, self.typed = b"", whole(name, given, "text")
 
     def hint(self, answer):
         """A line of advice, where a text may have been taken for bytes."""
@@ -65,7 +62,7 @@ def writable(given):
     """Tells it if the sheet that was given cannot get other bytes."""
     if given.name == "-":
         raise CannotRun("standard input, -, cannot be written: name a file")
-    if given.text:
+    if given.typed is not None:
         raise CannotRun(f"{given.name}: a sheet that is text is not written; change its lines")
     if not os.path.isfile(given.name):
         raise CannotRun(f"{given.name}: not a file that can be written")
@@ -106,10 +103,10 @@ def rewrite(given, new):
         raise CannotRun(f"{given.name}: not written: {reason(error)}") from None
 
 
-def creatable(given, name):
-    """Tells it if a file of that name is there already, the sheet that was given or another."""
+def creatable(given, name, kind):
+    """Tells it if a file of that name is there already: the one that was given, of this kind, or another."""
     if given.name != "-" and os.path.exists(name) and os.path.samefile(given.name, name):
-        raise CannotRun(f"{name}: this is SHEET itself, which is left as it is; name a new file")
+        raise CannotRun(f"{name}: this is {kind} itself, which is left as it is; name a new file")
     if os.path.lexists(name):
         raise CannotRun(f"{name}: there is such a file already; name a new one")
 
@@ -127,6 +124,16 @@ def create(name, new):
                 raise
     except OSError as error:
         raise CannotRun(f"{name}: not written: {reason(error)}") from None
+
+
+def hand_over(name, new):
+    """These bytes for a new file of that name, or for standard output if it is -; what has them now."""
+    if name != "-":
+        create(name, new)
+        return name
+    sys.stdout.buffer.write(new)
+    sys.stdout.flush()
+    return "standard output"
 
 
 def quoted(name):

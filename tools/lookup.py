@@ -7,13 +7,13 @@ which pair has the name, and what is wrong with a file, is for the proved progra
 import re
 from typing import NamedTuple
 
-import sheet as notation
 import words
-from fields import heads
+from fields import field, heads
 from programs import CannotRun, no_answer, run_on
 
 NAME, SHEET = 48, 49  # the tags
 LONGEST = 65_535  # bytes of a sheet, since its length has two
+MOST_READ = 1_000_000  # bytes of a file: the program reads no longer one
 SHOWN = 20  # of the names that a file has
 
 NAME_DUE = f"a name (tag {NAME})"
@@ -69,7 +69,7 @@ def look(path, name, files):
     out, err = run_on(path, str(name), *files)
     if not out and REFUSED.fullmatch(err):
         return Refused(*map(int, err.split()))
-    if not err and len(out) <= LONGEST and any(notation.field(SHEET, out) in given for given in files):
+    if not err and len(out) <= LONGEST and any(field(SHEET, out) in given for given in files):
         return out
     raise no_answer("shelf_main", err, "gave neither a sheet of the files nor a refusal")
 

@@ -6,13 +6,11 @@ whether the mended sheet reads, and where it does not, is for the proved program
 
 import re
 import struct
-import sys
 from typing import NamedTuple, Optional
 
-import sheet as notation
 import words
 from fields import heads
-from given import create
+from given import hand_over
 from programs import no_answer, run
 from times import NUMBER
 
@@ -21,7 +19,7 @@ EXCHANGED, HALT_ADDED = 1, 2  # the kinds of a change
 LONGEST = 16_384  # bytes of a sheet
 MOST_STATEMENTS = 64  # of a thread
 
-HALT = notation.field(6, notation.statement("halt"))
+HALT = b"\x06\x00\x05" + bytes(5)  # tag, length, times 0 and 0, code 0
 
 # by a field's tag, what its two ends are of, where they stand in its body and how they are packed
 ENDS = {1: ("ends", 8, ">II"), 2: ("ends", 0, ">ii"), 5: ("ends", 0, ">ii"), 6: ("times", 0, ">HH")}
@@ -46,6 +44,9 @@ REFUSALS = {
     ),
 }
 WITH_PLACE = (1, 2, 3, 4, 5, 6, 8)  # no thread of a mended sheet lacks its halt (7)
+
+# what is said of a text that is not converted
+NO_SHEET = ["a sheet is mended, a text is not: correct its line, or mend the sheet's bytes", "nothing is written"]
 
 ANSWER = re.compile(rb"(%s) (%s) (%s) (%s)\n((?:[12] %s\n)*)" % ((NUMBER,) * 5))
 
@@ -154,21 +155,15 @@ def call(path, sheet):
 # ---- in words
 
 
-def where(part, given):
-    """The offset of a field, and its line where the sheet came as text. The label is the last of the three lines of its field."""
-    lines = [line for offset, line in given.places if offset == part.offset]
-    return f"at byte {part.offset}" + (f", line {lines[-1]}" if lines else "")
-
-
-def change_lines(given):
+def change_lines(sheet):
     lines = []
-    for part in parts(given.sheet):
+    for part in parts(sheet):
+        where = f"{part.name} (at byte {part.offset})"
         if part.ends:
             low, high = part.ends
-            ends = f"exchanged the {ENDS[part.tag][0]} of {part.name} ({where(part, given)})"
-            lines.append(f"{ends}: {low}..{high} is now {high}..{low}")
+            lines.append(f"exchanged the {ENDS[part.tag][0]} of {where}: {low}..{high} is now {high}..{low}")
         if part.unclosed:
-            lines.append(f"added halt behind {part.name} ({where(part, given)}): it is statement {part.statements}")
+            lines.append(f"added halt behind {where}: it is statement {part.statements}")
     return lines
 
 
@@ -199,7 +194,7 @@ def explain(answer, given, name):
         return words.refused(answer.refusal, row, lines) + given.hint(answer)
     if not answer.changes:
         return ["nothing to mend: the sheet reads well as it is" + (", and is copied" if name else "")]
-    return [f"mended, {words.number(len(answer.changes), 'change')}:", *("  " + line for line in change_lines(given))]
+    return [f"mended, {words.number(len(answer.changes), 'change')}:", *("  " + line for line in change_lines(given.sheet))]
 
 
 def numbers(answer):
@@ -217,10 +212,5 @@ def write(answer, name):
         return "nothing is written"
     if name is None:
         return "nothing is written: name a new file behind SHEET, and the mended sheet goes there"
-    if name == "-":
-        sys.stdout.buffer.write(answer.sheet)
-        sys.stdout.flush()
-    else:
-        create(name, answer.sheet)
     kind = "the mended sheet" if answer.changes else "the copy"
-    return f"written: {'standard output' if name == '-' else name} has {kind}, {words.number(answer.written, 'byte')}"
+    return f"written: {hand_over(name, answer.sheet)} has {kind}, {words.number(answer.written, 'byte')}"

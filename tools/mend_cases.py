@@ -4,7 +4,7 @@ papers."""
 from calls import B
 from mend import HALT
 from preview_cases import C, FULL, SLOWER, b_with, sheet_of
-from sheet import field
+from fields import field
 
 GARBLED = B[:11] + B[15:19] + B[11:15] + B[19:30] + B[32:34] + B[30:32] + B[34:35]  # B, all that may be garbled is
 DEEP = "(" * 12 + "0" + " + 0)" * 12

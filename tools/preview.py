@@ -27,6 +27,10 @@ REFUSALS = {
     ),
 }
 
+# of a text that is not converted: both lines of numbers, and the last line of words
+OF_TEXT = "{0} {1} 0 0 0\n{0} {1} 0 0 0"
+NO_SHEET = "no statement of a text that is not converted is given new times"
+
 OF_CHECK = (0, *range(words.FIRST_OF_SEARCH, words.LAST_OF_CHECK + 1))
 
 FIVE = NUMBER + rb"(?: " + NUMBER + rb"){4}\n"

@@ -1,8 +1,8 @@
 """Sheets and new times with what ./zumbeiry preview gives for them, a module of try_preview.py. The numbers are worked out by hand
 from the papers."""
 
+from any_sheet import assemble
 from calls import B
-from sheet import assemble
 
 
 def sheet_of(body, limit=10, budget=100, label="0..10"):

@@ -38,12 +38,6 @@ def reason(error):
     return error.strerror or str(error)
 
 
-def once(files):
-    """Standard input may be one of the files."""
-    if files.count("-") > 1:
-        raise CannotRun("standard input, -, can be read once")
-
-
 def crates_of(name):
     """The crate and those of the repository that it depends on, by crates.txt."""
     listed = {}

@@ -3,8 +3,8 @@
 
     shelf_file.py NAME=FILE.. > out.bin
 
-NAME is a number from 0 to 255, and FILE a sheet as text (the notation: sheet.py) or as bytes, at most 65,535; FILE may
-be - for standard input. Each NAME=FILE becomes a pair of fields, in the order given: the name (tag 48, length 1), then
+NAME is a number from 0 to 255, and FILE a sheet as text, which goes through the proved converter (./zumbeiry convert --help),
+or as bytes, at most 65,535; FILE may be - for standard input. Each NAME=FILE becomes a pair of fields, in the order given: the name (tag 48, length 1), then
 the bytes of the sheet (tag 49). A name may come again, and a sheet may be empty (7=/dev/null). The sheets are not
 checked.
 """
@@ -13,22 +13,31 @@ import sys
 
 sys.dont_write_bytecode = True
 
+import convert
 import lookup
-import sheet
-from programs import CannotRun, once, reason
+from fields import field
+from given import Given, read
+from mark import line_and_column
+from options import once
+from programs import CannotRun, program, reason
 
 
 def bytes_of(file):
     """The bytes of the sheet in a file."""
-    with open(0 if file == "-" else file, "rb") as opened:
-        given = opened.read()
-    return sheet.assemble(sheet.lines_of(given)) if sheet.is_text(given) else given
+    given = Given(file, read(file), set())
+    if given.typed is not None:
+        convert.take(given, program(convert.PROGRAM))
+    if given.refused:
+        refusal, place, _ = given.refused
+        at = ": line {}, column {}".format(*line_and_column(given.typed, place)) if refusal in convert.WITH_LINE else ""
+        raise CannotRun(f"{file}: refused, {refusal} {convert.REFUSALS[refusal][0]}{at}; ./zumbeiry convert tells more")
+    return given.sheet
 
 
 def pair(name, body):
     if len(body) > lookup.LONGEST:
         raise CannotRun(f"the sheet of name {name} has more than {lookup.LONGEST:,} bytes")
-    return sheet.field(lookup.NAME, bytes([name])) + sheet.field(lookup.SHEET, body)
+    return field(lookup.NAME, bytes([name])) + field(lookup.SHEET, body)
 
 
 def name_and_file(word):
@@ -37,16 +46,6 @@ def name_and_file(word):
     if not equals:
         raise CannotRun(f"NAME=FILE is due, not {word!r}")
     return lookup.name_of(name), file
-
-
-def pair_of(name, file):
-    """The bytes of the pair of this name and the sheet in the file."""
-    try:
-        return pair(name, bytes_of(file))
-    except OSError as error:
-        raise CannotRun(f"{file}: {reason(error)}") from None
-    except sheet.SheetError as error:
-        raise CannotRun(f"{file}: {error}") from None
 
 
 def write(made):
@@ -66,7 +65,7 @@ def main(words):
             return
         pairs = [name_and_file(word) for word in words]
         once([file for _, file in pairs])
-        write(b"".join(pair_of(name, file) for name, file in pairs))
+        write(b"".join(pair(name, bytes_of(file)) for name, file in pairs))
     except CannotRun as fault:
         sys.exit(f"shelf_file.py: {fault}")
 

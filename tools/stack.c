@@ -2,9 +2,9 @@
  * The stack that a call of zumbeiry_check, zumbeiry_change_times, zumbeiry_take_back, zumbeiry_preview and zumbeiry_mend uses: with each
  * sheet of a corpus each is made on a painted stack, and the deepest byte that changed is found. The new times, and the old ones, are
  * those that the sheet's first statement has, so that the preview gives the numbers of the check, and the change and its taking back
- * leave the sheet as it is.
+ * leave the sheet as it is. And that of zumbeiry_convert, with each of the texts.
  *
- *     stack CORPUS     corpus.rs describes the file
+ *     stack CORPUS TEXT..     corpus.rs describes the first file
  */
 #define _GNU_SOURCE
 #include "zumbeiry.h"
@@ -19,8 +19,8 @@
 #define WRONG 1  /* planted in an entry: one of its numbers is wrong on purpose */
 
 static unsigned char stack[STACK] __attribute__((aligned(4096)));
-static uint8_t *sheet, copy[65536];
-static size_t sheet_length, work_length, least, greatest, depth;
+static uint8_t *sheet, copy[65536], text[1 << 20];
+static size_t sheet_length, text_length, work_length, least, greatest, depth;
 static int32_t work[65536];
 static uint32_t changes[1024];
 static uint64_t answer[8];
@@ -50,10 +50,15 @@ static void mend(void)
     zumbeiry_mend(sheet, sheet_length, copy, sizeof copy, changes, 1024, answer, 4);
 }
 
+static void convert(void)
+{
+    zumbeiry_convert(text, text_length, copy, sizeof copy, answer, 3);
+}
+
 struct measured {
     const char *name;
     void (*call)(void);
-    size_t most, entry; /* bytes, and the first entry that needs them */
+    size_t most, entry; /* bytes, and the first entry, or text, that needs them */
 };
 
 static struct measured all[] = {
@@ -64,6 +69,7 @@ static struct measured all[] = {
     {"zumbeiry_mend", mend, 0, 0},
 };
 static struct measured *const all_end = all + sizeof all / sizeof *all;
+static struct measured of_texts = {"zumbeiry_convert", convert, 0, 0};
 
 /* The call comes from here, so that what lies below this frame is the call's. */
 static __attribute__((noinline)) void *painted(void *measured)
@@ -127,6 +133,14 @@ static int expected(const struct measured *measured, const uint8_t *entry)
     return answer[0] == entry[4] && answer[2] == number(entry + 7, 4);
 }
 
+static void measured_at(struct measured *measured, size_t index)
+{
+    if (depth > measured->most) {
+        measured->most = depth;
+        measured->entry = index;
+    }
+}
+
 static void measure(uint8_t *entry, size_t index)
 {
     sheet_length = number(entry, 2);
@@ -139,27 +153,41 @@ static void measure(uint8_t *entry, size_t index)
             fprintf(stderr, "stack: %s answers entry %zu otherwise\n", measured->name, index);
             exit(1);
         }
-        if (depth > measured->most) {
-            measured->most = depth;
-            measured->entry = index;
-        }
+        measured_at(measured, index);
     }
+}
+
+static size_t read_file(const char *path, uint8_t *bytes, size_t most)
+{
+    FILE *file = fopen(path, "rb");
+    if (file == NULL) {
+        perror(path);
+        exit(2);
+    }
+    size_t length = fread(bytes, 1, most, file);
+    fclose(file);
+    return length;
 }
 
 int main(int count, char **arguments)
 {
     static uint8_t corpus[1 << 24];
-    FILE *file = count == 2 ? fopen(arguments[1], "rb") : NULL;
-    if (file == NULL) {
-        fprintf(stderr, "usage: stack CORPUS\n");
+    if (count < 2) {
+        fprintf(stderr, "usage: stack CORPUS TEXT..\n");
         return 2;
     }
-    size_t length = fread(corpus, 1, sizeof corpus, file), entries = 0;
-    fclose(file);
+    size_t length = read_file(arguments[1], corpus, sizeof corpus), entries = 0;
     for (size_t at = 4; at + FRONT <= length; at += FRONT + sheet_length)
         measure(corpus + at, entries++);
+    for (int at = 2; at < count; at++) {
+        text_length = read_file(arguments[at], text, sizeof text);
+        run_painted(&of_texts);
+        measured_at(&of_texts, (size_t)at);
+    }
     printf("%zu sheets\n", entries);
     for (struct measured *measured = all; measured < all_end; measured++)
         printf("%s: at most %zu bytes of stack, on entry %zu\n", measured->name, measured->most, measured->entry);
+    if (count > 2)
+        printf("%s: at most %zu bytes of stack, on %s\n", of_texts.name, of_texts.most, arguments[of_texts.entry]);
     return 0;
 }

@@ -2,11 +2,11 @@
 """Tries ./zumbeiry check: on every sheet of sheets/, as text and as bytes, and on inputs that are broken on purpose. Then
 building, by try_building.py, ./zumbeiry find, by try_find.py, tools/shelf_file.py, by try_shelf_file.py, ./zumbeiry follow, by
 try_follow.py, ./zumbeiry preview, by try_preview.py and try_written.py, ./zumbeiry take-back, by try_take_back.py and
-try_chains.py, and ./zumbeiry mend, by try_mend.py and try_mended.py.
+try_chains.py, ./zumbeiry mend, by try_mend.py and try_mended.py, and ./zumbeiry convert, by try_convert.py and try_converted.py.
 
     python3 tools/try_command.py
 
-The command first builds its five programs in target/bin/, if need be. The last line is 'N passed, 0 failed'.
+The command first builds its six programs in target/bin/, if need be. The last line is 'N passed, 0 failed'.
 """
 
 import os
@@ -17,14 +17,16 @@ import tempfile
 
 sys.dont_write_bytecode = True
 
+import convert
 import follower
 import lookup
 import mend
 import preview
-import sheet
 import take_back
 import try_building
 import try_chains
+import try_convert
+import try_converted
 import try_find
 import try_follow
 import try_mend
@@ -34,51 +36,36 @@ import try_shelf_file
 import try_take_back
 import try_written
 import words
+from any_sheet import assemble
 from calls import B, Call, ROOT, cannot, copied, counts, expect, in_folder, text_of
+from convert_cases import HEAD, REFUSED, TOO_LONG
 
-HEAD = "limit 10\nbudget 100\nlabel 0..10\nlocks 1\nvar 0..0\n"  # lines 1 to 5
+def expected():
+    """The five numbers of each sheet that sheets/README.md lists."""
+    rows = re.findall(r"^\| `(\S+)` \| [^|]* \| (\d+(?: \d+){4}) \|$", text_of("sheets", "README.md"), re.MULTILINE)
+    texts = [name for name in os.listdir(os.path.join(ROOT, "sheets")) if name.endswith((".txt", ".sheet"))]
+    expect("sheets/README.md lists every sheet once", sorted(name for name, _ in rows) == sorted(texts), rows)
+    return dict(sorted(rows))
 
 
 def try_sheets(folder):
-    names = sorted(name for name in os.listdir(os.path.join(ROOT, "sheets")) if name.endswith(".txt"))
-    numbers = []
-    for name in names:
-        path = os.path.join("sheets", name)
-        with open(os.path.join(ROOT, path), encoding="utf-8") as text:
-            lines = text.readlines()
-        five = next(re.search(r"# Expected: ([\d ]+)", line) for line in lines if "# Expected:" in line).group(1)
-        numbers.append(five.strip())
-        status = 0 if numbers[-1].startswith("0 ") else 1
-        word = "accepted: " if status == 0 else "refused, "
-        first = Call("check", path).gives(status, numbers[-1] + "\n" + word)
-        second = Call("check", in_folder(folder, name, sheet.assemble(lines))).gives(status)
-        said = "".join(line for line in first.out.splitlines(True) if not line.startswith("  line "))
-        expect(f"{name}: bytes give what text gives", second.out == said, first.out + second.out)
-    several = [os.path.join("sheets", name) for name in names]
+    rows = expected()
+    for name, numbers in rows.items():
+        path, status = os.path.join("sheets", name), 0 if numbers.startswith("0 ") else 1
+        first = Call("check", path).gives(status, numbers + "\n" + ("accepted: " if status == 0 else "refused, "))
+        if name.endswith(".txt") and not name.startswith("mistyped"):
+            made = assemble(text_of(path).splitlines())
+            second = Call("check", in_folder(folder, name, made)).gives(status)
+            said = "".join(line for line in first.out.splitlines(True) if not line.startswith("  line "))
+            expect(f"{name}: bytes give what text gives", second.out == said, first.out + second.out)
+    several, numbers = [os.path.join("sheets", name) for name in rows], list(rows.values())
     call = Call("check", "--numbers", *several).gives(1)
     expect("the numbers alone", call.out.splitlines() == numbers and call.err == "", call.out)
     Call("check", *several[:2]).gives(1, f"{several[0]}:\n{numbers[0]}\n", f"\n\n{several[1]}:\n{numbers[1]}\n")
 
 
 # after HEAD: the text, the first two numbers, the words that name the field
-WRONG_TEXTS = (
-    ("thread\n1..1 r3 := 1\nhalt", "5 38", "line 7: 1..1 r3 := 1\n", "statement 0 of thread 0, assign"),
-    ("thread\n1..1 load r0 from x0\nhalt", "5 38", "line 7: 1..1 load r0 from x0\n", "load"),
-    ("thread\n# a comment\n\n1..1 if true goto 9 # far\nhalt", "5 38", "line 9: 1..1 if true goto 9\n", "if"),
-    ("thread\nhalt\nthread\n1..1 lock l1\nhalt", "5 50", "line 9: 1..1 lock l1\n", "statement 0 of thread 1, lock"),
-    ("thread\n1..1 skip", "7 38", "line 7: 1..1 skip\n", "statement 0 of thread 0, skip"),
-    ("thread\n3..2 skip\nhalt", "4 38", "line 7: 3..2 skip\n", "least at most greatest"),
-    ("thread\n0..2 skip\nhalt", "4 38", "line 7: 0..2 skip\n", "what fits: codes 0..7"),
-    ("thread\nreg 1..0\nhalt", "4 38", "line 7: reg 1..0\n", "register r0 of thread 0"),
-    ("var 1..0\nthread\nhalt", "4 34", "line 6: var 1..0\n", "variable x1"),
-    ("thread\n" + "reg 0..0\n" * 9 + "halt", "4 34", "line 6: thread\n", "0..8 registers"),
-    ("thread\nthread\nhalt", "2 38", "line 7: thread\n", "due there: a statement of thread 0"),
-    ("thread", "1 38", "after line 6, the last: thread\n", "here the sheet ends"),
-    ("thread\nreg 0..0", "1 49", "after line 7, the last: reg 0..0\n", "due there: a statement of thread 0"),
-    ("", "1 34", "after line 5, the last: var 0..0\n", "due there: a variable (tag 2) or a thread (tag 4)"),
-    ("var 0..0\n" * 8, "8 111", "line 13: var 0..0\n", "variable x8"),
-    ("thread\nhalt\n" * 5, "8 82", "line 14: thread\n", "the start of thread 4"),
-    ("thread\nreg 0..0\n1..1 r0 := " + "(" * 12 + "0" + " + 0)" * 12 + "\nhalt", "6 49", "line 8: ", "assign"),
+FAULTS = (
     (
         "thread\nreg -1..1\n1..1 r0 := 10 / r0\nhalt",
         "10 49",
@@ -89,7 +76,7 @@ WRONG_TEXTS = (
     ),
     ("thread\nreg 1..2\n1..1 r0 := r0 * 2000000000\nhalt", "16 49", "line 8: 1..1 r0 := r0 * 2000000000\n", "1 state\n"),
     (
-        "thread\nreg 1..2\n1..1 skip\n1..1 if -2147483648 - r0 < 0 goto 0\nhalt",
+        "thread\nreg 1..2\n1..1 skip\n1..1   if -2147483648 - r0 < 0 goto 0  \nhalt",
         "16 57",
         "refused, 16 off the scale: a result may leave the 32-bit values (",
         "line 9: 1..1 if -2147483648 - r0 < 0 goto 0\n",
@@ -98,36 +85,19 @@ WRONG_TEXTS = (
     ),
     ("thread\nreg -1..1\n1..1 if (2147483647 + 1) / r0 == 1 / r0 goto 0\nhalt", "16 49", "line 8: ", "if"),
     ("thread\nreg -1..1\n1..1 if 1 / r0 == (2147483647 + 1) / r0 goto 0\nhalt", "10 49", "line 8: ", "if"),
-    ("thread\n" + "1..1 skip\n" * 64 + "halt", "8 550", "line 71: halt\n", "statement 64 of thread 0, halt"),
-)
-
-# the whole text, the line and the reason
-UNREADABLE_TEXTS = (
-    ("limit ten\n", "line 1: a number expected"),
-    ("limit 5000000000\n", "line 1: a number does not fit"),
-    ("limit 1\nlabel -1..3\n", "line 2: a number does not fit"),
-    ("budget 1\nlocks 300\n", "line 2: a number does not fit"),
-    ("budget 1\n", "no 'limit' line"),
-    (HEAD + "thread\n1..1 skip now\nhalt\n", "line 7: not a statement"),
-    (HEAD + "thread\n1..1 r0 := 1 +\nhalt\n", "line 7: a number or register expected"),
-    (HEAD + "thread\n1..70000 skip\nhalt\n", "line 7: a number does not fit"),
-    (HEAD + "thread\n1..1 r0 := " + "(" * 9000 + "\nhalt\n", "line 7: nested too deeply"),
-    (HEAD + "thread\n1..1 r0 := 1" + "0" * 9000 + "\nhalt\n", "line 7: "),
-    (HEAD + "thread\n" + "reg 0..0\n" * 256, "line 262: a number does not fit"),
-    ("h\xe9llo\n", "line 1: "),
-    ("skip " * 300_000, "a text of more than 1,000,000 bytes is not read"),
+    ("thread\nreg -1..1\n1..1 r0 := 1 / r0" + " + 1" * 10 + " " * 50 + "\nhalt", "10 49", "line 8: ", "+ 1 + 1\n"),
 )
 
 
 def try_texts():
-    for text, numbers, *said in WRONG_TEXTS:
+    for text, numbers, *said in FAULTS:
         call = Call("check", "-", given=(HEAD + text).encode()).gives(1, *said)
         expect(f"{text!r} gives {numbers}", call.out.startswith(numbers + " "), call.out)
-    limit = HEAD.replace("label 0..10", "label 3..2") + "thread\nhalt\n"
-    Call("check", "-", given=limit.encode()).gives(1, "4 0 ", "line 1: limit 10\n", "line 3: label 3..2\n")
-    for text, said in UNREADABLE_TEXTS:
-        cannot(Call("check", "-", given=text.encode("latin-1")), "zumbeiry: -: " + said)
-    Call("check", "-", given=b"\xef\xbb\xbf" + HEAD.replace("\n", "\r\n").encode() + b"thread\r\nhalt # \xe9").gives(0)
+    for text, numbers, (line, column), _, *said in REFUSED:
+        where = f"  line {line}, column {column} (byte {numbers.split()[1]} of the text):\n"
+        Call("check", "--text", "-", given=text.encode("latin-1")).gives(1, f"{numbers} 0 0 0\nrefused, ", where, *said)
+    Call("check", "-", given=TOO_LONG.encode()).gives(1, "9 0 0 0 0\nrefused, 9 too long: the sheet of the text would have")
+    cannot(Call("check", "-", given=b"skip " * 300_000), "zumbeiry: -: a text of more than 1,048,576 bytes is not read\n")
 
 
 def try_bytes(folder):
@@ -151,7 +121,7 @@ def try_bytes(folder):
     in_folder(folder, "B's bytes", B)
     Call("check", "B's bytes", folder=folder).gives(0, "0 0 2 2 3\naccepted: ")
     Call("check", "-", given=B).gives(0, "between tick 2 and tick 3, inside the label 2..3; the search took 2 states")
-    cannot(Call("check", "--text", "-", given=B), "zumbeiry: -: line 1: ")
+    Call("check", "--text", "-", given=B).gives(1, "20 0 0 0 0\nrefused, 20 unreadable: ", "it may be a sheet already)\n")
     Call("check", "--bytes", "-", given=b"limit 10").gives(1, "2 0 0 0 0\nrefused, 2 out of turn")
 
 
@@ -200,7 +170,7 @@ def try_usage(folder):
 def try_readme():
     text = text_of("README.md")
     rows = re.findall(r"^\| (\d+) (.+) \| (.+) \| (.+) \|$", text, re.MULTILINE)
-    for module in (words, lookup, follower, preview, take_back, mend):
+    for module in (words, lookup, follower, preview, take_back, mend, convert):
         table = [(str(number), *row) for number, row in module.REFUSALS.items()]
         expect(f"README has the table of {module.__name__}", [row for row in rows if row in table] == table, rows)
     sums = re.findall(r"^\| (\d) \| (\d+) \| ([\d,]+) \|$", text, re.MULTILINE)
@@ -211,7 +181,7 @@ def try_readme():
 def main():
     find, follow = ["--check", "10", *try_find.EXAMPLES], ["sheets/B.txt", "sheets/B-at-3.rec"]
     calls = (["check", "sheets/B.txt"], ["find", *find], ["follow", *follow], ["preview", "sheets/B.txt", *try_preview.ASKED])
-    for arguments in (*calls, ["mend", "sheets/garbled.txt"]):
+    for arguments in (*calls, ["mend", "sheets/garbled.sheet"]):
         subprocess.run([os.path.join(ROOT, "zumbeiry"), *arguments], cwd=ROOT)
     with tempfile.TemporaryDirectory() as folder:
         try_sheets(folder)
@@ -232,6 +202,8 @@ def main():
         try_chains.try_all(folder)
         try_mend.try_all(folder, copy)
         try_mended.try_all(folder, copy)
+        try_convert.try_all(folder, copy)
+        try_converted.try_all(folder, copy)
     print(f"{counts[True]} passed, {counts[False]} failed")
     return 1 if counts[False] else 0
 

@@ -7,7 +7,7 @@ import subprocess
 import sys
 
 from calls import B, Call, ROOT, as_in_readme, cannot, expect, in_folder, stand_in, text_of
-from sheet import field
+from fields import field
 from shelf_file import pair
 
 EXAMPLES = ("sheets/shelf-his.bin", "sheets/shelf-ours.bin")

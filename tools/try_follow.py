@@ -8,7 +8,7 @@ import subprocess
 import follower
 from calls import B, Call, ROOT, as_in_readme, cannot, expect, in_folder, stand_in, text_of
 from follow_cases import HOLDS, REFUSED, RUNS, event
-from sheet import field
+from fields import field
 
 EXAMPLES = ("sheets/B.txt", "sheets/B-at-3.rec")
 
@@ -53,9 +53,12 @@ def try_forms(folder):
     answers(follow(folder, "sheet", "-", given=bytes(2_000_000)), "9 1 0 0 0", "in -, the record\n", status=1)
     answers(follow(folder, "--bytes", "-", "record", given=bytes(2_000_000)), "9 0 0 0 0", "in -, the sheet\n", status=1)
     in_folder(folder, "sheet", b"limit 10\nbudget 10\nlabel 2..3\nlocks 0\nthread\n3..2 skip\nhalt\n")
-    answers(follow(folder), "4 0 27 0 0", "line 6: 3..2 skip\n", "in sheet, the sheet\n", status=1)
+    line = "  in sheet, the sheet\n  line 6, column 1 (byte 45 of the text):\n    6 | 3..2 skip\n      | ^\n"
+    answers(follow(folder), "4 0 45 0 0", "refused, 4 off range: a number of the line is outside", line, status=1)
     in_folder(folder, "sheet", b"limit ten\n")
-    cannot(follow(folder), "zumbeiry: sheet: line 1: a number expected")
+    answers(follow(folder), "20 0 6 0 0", "refused, 20 unreadable: ", "  in sheet, the sheet\n  line 1, column 7 ", status=1)
+    call = follow(folder, "--numbers", "sheet", "record").gives(1)
+    expect("a text: the numbers alone", call.out == "20 0 6 0 0\n" and call.err == "", call.out)
 
 
 def try_program(folder):

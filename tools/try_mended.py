@@ -5,23 +5,25 @@ program, which is tried itself if it is built."""
 import os
 from unittest import mock
 
+import convert
 import given
-from calls import B, Call, cannot, expect, in_folder, stand_in
+import mend
+from calls import B, Call, StandIn, cannot, expect, in_folder, stand_in
 from mend_cases import GARBLED
 from programs import CannotRun
-from try_mend import BUILT, PROGRAM, StandIn, alone, ask, says, tells
+from try_mend import BUILT, PROGRAM, alone, ask, says, tells
 from try_written import Sheet, as_anyone
 
 FOUR = "0 0 43 6"  # of GARBLED
 CHANGES = "1 0\n1 27\n2 27\n"
-TEXT = b"limit 10\nbudget 100\nlabel 3..2 # garbled\nlocks 0\n\nthread\n3..2 skip\n"  # the same as text
+TEXT = b"limit 10\nbudget 100\nlabel 2..3\nlocks 0\nthread\n2..3 skip\nhalt\n"  # B as text
 WRITTEN = "written: {} has the mended sheet, 43 bytes\n"
 
 LINES = (
     "mended, 3 changes:\n"
-    "  exchanged the ends of the label (at byte 0, line 3): 3..2 is now 2..3\n"
-    "  exchanged the times of statement 0 of thread 0, skip (at byte 27, line 7): 3..2 is now 2..3\n"
-    "  added halt behind statement 0 of thread 0, skip (at byte 27, line 7): it is statement 1\n"
+    "  exchanged the ends of the label (at byte 0): 3..2 is now 2..3\n"
+    "  exchanged the times of statement 0 of thread 0, skip (at byte 27): 3..2 is now 2..3\n"
+    "  added halt behind statement 0 of thread 0, skip (at byte 27): it is statement 1\n"
 )
 
 
@@ -121,22 +123,31 @@ def try_failures(folder):
 
 
 def try_forms(folder, copy):
-    """A sheet may be text: its lines are named, and bytes are written."""
-    sheet = Sheet(folder, "a text to mend", TEXT)
+    """A sheet may be text: one that is converted reads well, and any other is not mended."""
+    sheet, text = Sheet(folder, "a text to mend", TEXT), StandIn(folder, copy, convert.PROGRAM)
+    program = StandIn(folder, copy, mend.PROGRAM)
+    program.answers(B, "0 0 43 0\n")
+    text.answers(B, "")
     for arguments, standard in ((["sheet"], b""), (["--text", "sheet"], b""), (["-"], TEXT)):
-        tells(ask(sheet.folder, *arguments, root=copy, given=standard), FOUR, f"{FOUR}\n{LINES}nothing is written: ", status=0)
-    tells(ask(sheet.folder, "sheet", "new", root=copy), FOUR, LINES + WRITTEN.format("new"), status=0)
+        tells(ask(sheet.folder, *arguments, root=copy, given=standard), "0 0 43 0", "nothing to mend: ", status=0)
+        text.was_given(TEXT)
+        program.was_given(B)
+    tells(ask(sheet.folder, "sheet", "new", root=copy), "0 0 43 0", "written: new has the copy, 43 bytes\n", status=0)
     has(sheet, "new", B)
-    stand_in(os.path.join(copy, PROGRAM), says("4 27 0 0", "exit 0"))
-    healed = "  its times are 3..2: exchanging them does not heal it\n"
-    tells(ask(sheet.folder, root=copy), "4 27 0 0", "  line 7: 3..2 skip\n  at byte 27: ", healed)
-    stand_in(os.path.join(copy, PROGRAM), says("2 0 0 0", "exit 0"))
+    text.answers(b"", "4 47\n")
+    stand_in(program.path, "exit 3\n")
+    said = "refused, 4 off range: a number of the line is outside its range", "  line 6, column 1 (byte 47 of the text):\n"
+    no_text = "\na sheet is mended, a text is not: correct its line, or mend the sheet's bytes\nnothing is written\n"
+    in_folder(sheet.folder, "sheet", TEXT.replace(b"10\n", b"100\n", 1))
+    for more in ([], ["new"]):
+        tells(ask(sheet.folder, "--check", "sheet", *more, root=copy), "4 47 0 0", *said, no_text)
+    alone(ask(sheet.folder, "--numbers", "sheet", root=copy), "4 47 0 0\n", 1)
+    call = ask(sheet.folder, "sheet", "-", root=copy).gives(1, err=["4 47 0 0\nrefused, 4 off range", no_text])
+    expect("refused: no bytes", call.bytes == b"", call.out)
+    program.answers(b"", "2 0 0 0\n")
     hint = "(it was taken as bytes, since it holds control characters; --text takes it as text)\n"
     tells(ask(sheet.folder, "-", root=copy, given=b"\x07\x00\x00"), "2 0 0 0", hint)
     tells(ask(sheet.folder, "--bytes", "sheet", root=copy), "2 0 0 0", "refused, 2 out of turn")
-    cannot(ask(sheet.folder, "--text", "-", root=copy, given=B), "zumbeiry: -: line 1: ")
-    in_folder(sheet.folder, "sheet", TEXT.replace(b"10\n", b"ten\n", 1))
-    cannot(ask(sheet.folder, root=copy), "zumbeiry: sheet: line 1: a number expected")
 
 
 def try_checked(folder, copy):
@@ -162,7 +173,7 @@ def try_checked(folder, copy):
 
 def try_built(folder):
     """With the programs themselves: a mended file is checked as any other."""
-    sheet = Sheet(folder, "mended by the program", TEXT)
+    sheet = Sheet(folder, "mended by the program", GARBLED)
     first = ask(sheet.folder, "--check", "sheet", "new").gives(0, f"{FOUR}\n{LINES}")
     second = Call("check", "new", folder=sheet.folder).gives(0, "0 0 2 2 3\n")
     expect("what check gives", first.out.endswith(f"\n\nthe mended sheet:\n{second.out}"), first.out + second.out)
@@ -183,7 +194,7 @@ def try_usage(folder):
 
 
 def try_all(folder, copy):
-    program = StandIn(folder, copy)
+    program = StandIn(folder, copy, mend.PROGRAM)
     for tried in (try_new_files, try_output, try_unwritten, try_forms, try_checked):
         program.answers(B, f"{FOUR}\n{CHANGES}")
         tried(folder, copy)

@@ -69,7 +69,8 @@ def try_forms(folder):
     answers(ask(folder, "-", *ASKED, given=bytes(2_000_000)), "9 0 0 0 0", "9 0 0 0 0")
     answers(ask(folder, "-", *ASKED, given=B[:2]), "1 0 0 0 0", "1 0 0 0 0", "(it was taken as bytes, since it holds")
     in_folder(folder, "sheet", TEXT.replace(b"10\n", b"ten\n", 1))
-    cannot(ask(folder), "zumbeiry: sheet: line 1: a number expected")
+    answers(ask(folder), "20 6 0 0 0", "20 6 0 0 0", "  line 1, column 7 (byte 6 of the text):\n    1 | limit ten\n", preview.NO_SHEET)
+    alone(folder, ASKED, "20 6 0 0 0", "20 6 0 0 0", 1)
 
 
 def program_gives(folder, arguments, out, err):

@@ -5,7 +5,8 @@ import subprocess
 import sys
 
 from calls import B, ROOT, expect, in_folder
-from sheet import field
+from convert_cases import TOO_LONG
+from fields import field
 
 TOOL = os.path.join(ROOT, "tools", "shelf_file.py")
 
@@ -44,7 +45,8 @@ def try_all(folder):
     fails(b"NAME=FILE is due, not '7'", "7")
     fails(b"a name is a number from 0 to 255, not '256'", f"256={text}")
     fails(b"absent: No such file", "7=absent")
-    fails(b"-: line 1: ", "7=-", given=b"limit ten\n")
+    fails(b"-: refused, 20 unreadable: line 1, column 7; ./zumbeiry convert tells more\n", "7=-", given=b"limit ten\n")
+    fails(b"-: refused, 9 too long; ./zumbeiry convert tells more\n", "7=-", given=TOO_LONG.encode())
     with open("/dev/full", "wb") as full:
         fails(b"standard output: No space left", f"7={text}", out=full)
     for words in (["--help"], [f"7={text}", "-h"]):

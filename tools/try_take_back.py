@@ -6,9 +6,9 @@ import re
 
 import take_back
 import times
+from any_sheet import assemble
 from calls import B, Call, ROOT, as_in_readme, cannot, expect, in_folder, stand_in, text_of
 from preview_cases import SLOWER, UNREAD
-from sheet import assemble
 from take_back_cases import AGAIN, REFUSED, SAME, TAKEN
 from try_preview import TEXT, USAGE, program_gives
 from try_written import Sheet, as_anyone
@@ -121,7 +121,7 @@ def try_usage(folder):
 
 def try_examples(folder):
     """What stands in README.md and in sheets/README.md is given."""
-    made = "    python3 tools/sheet.py sheets/B.txt > target/B.sheet\n    ./zumbeiry preview --write "
+    made = "    ./zumbeiry convert sheets/B.txt target/B.sheet\n    ./zumbeiry preview --write "
     expect("README.md makes its sheet", made in text_of("README.md"))
     in_folder(os.path.join(ROOT, "target"), "B.sheet", B)
     as_in_readme("preview --write|take-back", 3)

@@ -10,13 +10,16 @@ VERBS = """usage: ./zumbeiry VERB ..
   take-back SHEET THREAD STATEMENT OLD_LEAST..OLD_GREATEST NEW_LEAST..NEW_GREATEST
                          the old times again, instead of the new ones that preview --write gave
   mend SHEET [MENDED]    what did the card writer garble? the mended sheet goes into a new file
+  convert TEXT [SHEET]   which sheet does a text tell, or where can it not be read? the sheet goes into a new file
 
 ./zumbeiry VERB --help says more."""
 
 CHECK = """usage: ./zumbeiry check [--numbers] [--text | --bytes] FILE..
 
 Prints for each sheet the five numbers (refusal, place, steps, low, high) and the same in words.
-FILE is a sheet as bytes, or as text (the notation: tools/sheet.py); - is standard input.
+FILE is a sheet as bytes, or as text (what it says: ./zumbeiry convert --help); - is standard input.
+A text that is not converted is refused as by convert: the first two numbers are the refusal and its place in
+the text, the others 0.
 
   --numbers    the lines of five numbers alone
   --text       every FILE is text
@@ -51,9 +54,10 @@ Follows what the machine recorded of a job through the job's sheet: is it a run,
 which tick, and did the label hold? Prints five numbers and the same in words: the refusal (0: a run),
 the file at fault (0 the sheet, 1 the record), the offset of the field at fault, whether the run has
 finished (1) or not (0), and its last tick. What is refused is unfinished at tick 0.
-SHEET is bytes or text, as for check. RECORD is bytes: fields of tag 32 with the starting values, the
-variables first and then the registers of each thread, and a field of tag 33 for each event, its
-thread and the recorder's clock of sixteen bits. One of the files may be -, standard input.
+SHEET is bytes or text, as for check; of a text that is not converted the place is one in the text.
+RECORD is bytes: fields of tag 32 with the starting values, the variables first and then the registers of
+each thread, and a field of tag 33 for each event, its thread and the recorder's clock of sixteen bits.
+One of the files may be -, standard input.
 
   --numbers    the line of five numbers alone
   --text       SHEET is text
@@ -101,8 +105,9 @@ four numbers (refusal, place, bytes of the mended sheet, numbers that list the c
 the same in words, a line for each change. A sheet that reads well is copied. Offsets and lines are those
 of SHEET, which is left as it is.
 SHEET is bytes or text, as for check; - is standard input. MENDED is a new file, which gets the mended
-sheet's bytes, also where SHEET is text; none that is there is overwritten. If it is -, the bytes go to
-standard output, and numbers and words to standard error. Without MENDED nothing is written.
+sheet's bytes; none that is there is overwritten. If it is -, the bytes go to standard output, and numbers and
+words to standard error. Without MENDED nothing is written. A text that is converted reads well, and its sheet
+is copied; one that is not converted is not mended.
 
   --numbers    the line of four numbers, and a line of two for each change, kind (1 exchanged, 2 halt
                added) and offset of the field; with --check then the line of five numbers
@@ -112,3 +117,40 @@ standard output, and numbers and words to standard error. Without MENDED nothing
 
 Ends with 0 if the sheet is mended or copied (with --check: and accepted), 1 if the mending or the check is
 refused, 2 if a file could not be read or written or there is no answer."""
+
+CONVERT = """usage: ./zumbeiry convert [--numbers] TEXT [SHEET]
+
+Makes the sheet that a text tells. Prints three numbers (refusal, place in the text, bytes of the sheet) and the
+same in words; where the text is refused also its line and column, both from 1, and the line with a mark.
+TEXT has at most 1,048,576 bytes; - is standard input. SHEET is a new file, which gets the sheet's bytes; none
+that is there is overwritten. If it is -, the bytes go to standard output, and numbers and words to standard
+error. Without SHEET nothing is written.
+
+  --numbers    the line of three numbers alone
+
+What a text says, a line for each:
+
+  limit 10               the lines limit, budget, label and locks, in this order
+  budget 100
+  label 0..10
+  locks 1
+  var -1..1              then any number of variables, x0 first
+  thread                 then, for each thread,
+  reg 0..9               its registers, r0 first, and one statement or more, with their times:
+  2..3 skip
+  1..1 r0 := r0 + 2 * 3
+  1..1 if r0 < 5 goto 2  statements count from 0 in their thread
+  1..2 store r0 to x0
+  1..2 load r0 from x0
+  1..1 lock l0
+  1..1 unlock l0
+  halt                   without times
+
+* and / bind before + and -, each from left to right. Conditions: true, false, a == b, a < b, ! before one of
+these, before a condition in parentheses or before another !, and && between, from left to right. Parentheses may
+stand round arithmetic and round conditions, 32 deep. A minus belongs to the constant behind it, not to a
+register. Spaces stand where one likes between words, and where two words of letters or digits would meet. There
+are no tabs, comments, blank lines or upper case; the last newline may be missing.
+
+Ends with 0 if the text is converted, 1 if it is refused, 2 if a file could not be read or written or there is
+no answer."""

@@ -7,7 +7,6 @@ they are right is for the proved program to say, and nothing here changes what i
 
 from typing import NamedTuple
 
-import sheet as notation
 from fields import fields
 
 LENT = 12000  # numbers that the program lends, and how many of them a state fills
@@ -59,8 +58,13 @@ REFUSALS = {
     ),
     19: (
         "output full",
-        "a lent buffer is too short for what goes into it (preview and mend alone give this)",
-        "see what preview and mend say",
+        "a lent buffer is too short for what goes into it (preview, mend and convert alone give this)",
+        "see what preview, mend and convert say",
+    ),
+    20: (
+        "unreadable",
+        "a sheet that is typed as text cannot be read (every verb that takes a text gives this)",
+        "see what convert says",
     ),
     21: ("not a run", "what the machine recorded is not a run of the sheet (follow alone gives this)", "see what follow says"),
 }
@@ -169,10 +173,7 @@ def place_lines(answer, given, walk):
 def text_lines(answer, text, places):
     """The line of the field at fault, where the sheet came as text: places are its fields' offsets and lines."""
     numbers = [line for offset, line in places if offset == answer.place]
-    shown = [f"line {line}: {notation.item(text[line - 1])}" for line in numbers]
-    if not shown and places:
-        line = max(line for _, line in places)
-        shown = [f"after line {line}, the last: {notation.item(text[line - 1])}"]
+    shown = [f"line {line}: {' '.join(text[line - 1].split())}" for line in numbers]
     return [line if len(line) <= 120 else line[:117] + "..." for line in shown]
 
 

@@ -17,7 +17,7 @@ import sys
 
 sys.dont_write_bytecode = True
 
-import sheet
+import any_sheet
 
 ROOM = 12000  # numbers lent, unless the paper says otherwise
 NOT_PLANTED = 0
@@ -26,7 +26,7 @@ NOT_PLANTED = 0
 def text(body, limit=10, budget=100, label=(0, 10), locks=0):
     """The bytes of a sheet: the body's lines are divided by semicolons."""
     lines = [f"limit {limit}", f"budget {budget}", f"label {label[0]}..{label[1]}", f"locks {locks}"]
-    return sheet.assemble(lines + body.split(";"))
+    return any_sheet.assemble(lines + body.split(";"))
 
 
 B_BYTES = bytes.fromhex(

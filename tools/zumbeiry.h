@@ -1,8 +1,9 @@
 /*
- * The library's seven calls. `rt staticlib label` writes target/staticlib/liblabel.a, with zumbeiry_check, `rt staticlib shelf`
+ * The library's eight calls. `rt staticlib label` writes target/staticlib/liblabel.a, with zumbeiry_check, `rt staticlib shelf`
  * writes target/staticlib/libshelf.a, with zumbeiry_find, `rt staticlib record` target/staticlib/librecord.a, with zumbeiry_follow,
- * `rt staticlib retime` target/staticlib/libretime.a, with zumbeiry_change_times, zumbeiry_take_back and zumbeiry_preview, and
- * `rt staticlib mend` target/staticlib/libmend.a, with zumbeiry_mend (x86-64). A program links the archive of the call that it makes.
+ * `rt staticlib retime` target/staticlib/libretime.a, with zumbeiry_change_times, zumbeiry_take_back and zumbeiry_preview,
+ * `rt staticlib mend` target/staticlib/libmend.a, with zumbeiry_mend, and `rt staticlib convert` target/staticlib/libconvert.a, with
+ * zumbeiry_convert (x86-64). A program links the archive of the call that it makes.
  */
 #ifndef ZUMBEIRY_H
 #define ZUMBEIRY_H
@@ -239,6 +240,35 @@ uint32_t zumbeiry_mend(const uint8_t *sheet, size_t sheet_length,
                        uint8_t *mended, size_t mended_length,
                        uint32_t *changes, size_t changes_length,
                        uint64_t *answer, size_t answer_length);
+
+/*
+ * Converts a sheet that is typed as text into a lent buffer: the sheet, and zeros behind it. README.md says what a text says.
+ *
+ * Three numbers go to answer[0] to answer[2], in this order:
+ *
+ *     refusal   0: converted; 20: the text cannot be read, or a line is out of turn or missing; else 9: the sheet would have more
+ *               than 16,384 bytes; else 4 to 8: the sheet would not read, as in zumbeiry_check, or a number is too big for its
+ *               field (4); else 19: the buffer is too short
+ *     place     in the text: of 20 the first byte that cannot go on, or the text's end; of 4 to 8 the start of the line at fault;
+ *               else 0
+ *     written   the bytes of the sheet, 0 where it is refused
+ *
+ * Where it is refused, the buffer is all zeros. It is proved that a sheet that is written reads, as the program that the text says,
+ * and that the place of a 20 is the first byte that cannot go on: no readable text goes on with it, and what stands before it begins one.
+ *
+ * An array of fewer than three numbers is left as it is, and the numbers after the third too; the text is converted all the same. The
+ * refusal is returned.
+ *
+ * The buffer may have any length and any contents, and is written to its end in every case; 16,384 bytes hold every sheet. The text may
+ * have any length and any bytes, and is only read. Nothing is allocated or kept between calls: threads may call at the same time, each
+ * with its own buffer and answer. A call needs stack: docs/PERFORMANCE.md has the size.
+ *
+ * The caller sees to it that each pointer has that many readable (sheet and answer: writable) numbers, aligned for their type and not
+ * null even where the length is 0, and that sheet and answer overlap neither each other nor the text.
+ */
+uint32_t zumbeiry_convert(const uint8_t *text, size_t text_length,
+                          uint8_t *sheet, size_t sheet_length,
+                          uint64_t *answer, size_t answer_length);
 
 #ifdef __cplusplus
 }

@@ -15,8 +15,8 @@ use Rattle.rules.specs.Format.{Bytes, Got, bad, got, readFields}
 use Rattle.rules.specs.Product.{decimal}
 use Rattle.rules.proofs.Longest.{told-by-front}
 use Rattle.writing.specs.Out.{outOf, write, Writes, lineOf}
-use Rattle.writing.proofs.Written.{then-writes, writes-end, writes-length}
-use Rattle.writing.proofs.Line.{number-then, last-number, line-length}
+use Rattle.writing.proofs.Written.{then-writes, writes-length}
+use Rattle.writing.proofs.Line.{number-then, last-number, line-ends}
 use Rattle.mend.specs.Mend.{Mending, mended, refusedWith, mend}
 use Rattle.mend.specs.Claims.{MendClaims}
 use Rattle.mend.specs.Shape.{four}
@@ -25,10 +25,6 @@ use Rattle.mend.proofs.Claims.{mend-claims}
 use Rattle.mend_main.specs.Text.{lentNumbers, longestText, answered, written, lines, fourOf, said, EnoughLent, EnoughRead}
 
 -- ---- lines
-
--- a line of numbers of at most k + 1 digits ends in a buffer with room for it
-line-ends : (k : ℕ) (ns : List ℕ) → Each (λ n. n < 10 ^ suc k) ns → (l m : Bytes) (a r : ℕ) → Writes (lineOf ns) l a m r → a + (k + 2) * length ns ≤ length l → r ≤ a + (k + 2) * length ns
-line-ends k ns f l m a r w h = let x = line-length k ns f in let e = writes-end (lineOf ns) l m a r w (omega arith) in omega arith
 
 pub four-written : (r p w n : ℕ) (l₀ l₁ l₂ l₃ l₄ : Bytes) (p₁ p₂ p₃ p₄ : ℕ) → Writes (decimal r ++ 32 ∷ []) l₀ 0 l₁ p₁ → Writes (decimal p ++ 32 ∷ []) l₁ p₁ l₂ p₂
     → Writes (decimal w ++ 32 ∷ []) l₂ p₂ l₃ p₃ → Writes (decimal n ++ 10 ∷ []) l₃ p₃ l₄ p₄ → Writes (lineOf (four r p w n)) l₀ 0 l₄ p₄

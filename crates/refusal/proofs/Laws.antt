@@ -3,7 +3,7 @@ use mathlib.Core.Path.{_≡_, refl}
 use Rattle.rules.specs.Refusal as R
 use Rattle.refusal.specs.Shape.{refusalOf, ruleOf}
 use Rattle.refusal.specs.declared.Refusal.{Refusal}
-use Rattle.refusal.specs.declared.Refusal.the-variants.{Short, OutOfTurn, BadLength, OffRange, NoSuchName, BadExpression, NoHalt, TooMany, TooLong, NoReading, Stuck, PastLimit, OutOfSteps, OutOfRoom, LabelBroken, OffScale, ChangedSince, OutputFull, NotRun}
+use Rattle.refusal.specs.declared.Refusal.the-variants.{Short, OutOfTurn, BadLength, OffRange, NoSuchName, BadExpression, NoHalt, TooMany, TooLong, NoReading, Stuck, PastLimit, OutOfSteps, OutOfRoom, LabelBroken, OffScale, ChangedSince, OutputFull, Unreadable, NotRun}
 
 pub rule-of-refusal : (r : R.Refusal) → ruleOf (refusalOf r) ≡ r
 rule-of-refusal R.short = refl
@@ -24,6 +24,7 @@ rule-of-refusal R.labelBroken = refl
 rule-of-refusal R.offScale = refl
 rule-of-refusal R.changedSince = refl
 rule-of-refusal R.outputFull = refl
+rule-of-refusal R.unreadable = refl
 rule-of-refusal R.notRun = refl
 
 pub refusal-of-rule : (r : Refusal) → refusalOf (ruleOf r) ≡ r
@@ -45,4 +46,5 @@ refusal-of-rule LabelBroken = refl
 refusal-of-rule OffScale = refl
 refusal-of-rule ChangedSince = refl
 refusal-of-rule OutputFull = refl
+refusal-of-rule Unreadable = refl
 refusal-of-rule NotRun = refl

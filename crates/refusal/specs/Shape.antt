@@ -1,7 +1,7 @@
 -- The code's refusals and those of the rules: one for each of the other.
 use Rattle.rules.specs.Refusal as R
 use Rattle.refusal.specs.declared.Refusal.{Refusal}
-use Rattle.refusal.specs.declared.Refusal.the-variants.{Short, OutOfTurn, BadLength, OffRange, NoSuchName, BadExpression, NoHalt, TooMany, TooLong, NoReading, Stuck, PastLimit, OutOfSteps, OutOfRoom, LabelBroken, OffScale, ChangedSince, OutputFull, NotRun}
+use Rattle.refusal.specs.declared.Refusal.the-variants.{Short, OutOfTurn, BadLength, OffRange, NoSuchName, BadExpression, NoHalt, TooMany, TooLong, NoReading, Stuck, PastLimit, OutOfSteps, OutOfRoom, LabelBroken, OffScale, ChangedSince, OutputFull, Unreadable, NotRun}
 
 -- from the rules to the code: what a function that refuses must give
 abbrev pub refusalOf : R.Refusal → Refusal
@@ -23,6 +23,7 @@ refusalOf R.labelBroken = LabelBroken
 refusalOf R.offScale = OffScale
 refusalOf R.changedSince = ChangedSince
 refusalOf R.outputFull = OutputFull
+refusalOf R.unreadable = Unreadable
 refusalOf R.notRun = NotRun
 
 -- from the code to the rules: what a refusal means
@@ -45,4 +46,5 @@ ruleOf LabelBroken = R.labelBroken
 ruleOf OffScale = R.offScale
 ruleOf ChangedSince = R.changedSince
 ruleOf OutputFull = R.outputFull
+ruleOf Unreadable = R.unreadable
 ruleOf NotRun = R.notRun

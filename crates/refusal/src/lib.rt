@@ -22,6 +22,7 @@ pub enum Refusal {
     OffScale,
     ChangedSince,
     OutputFull,
+    Unreadable,
     NotRun,
 }
 
@@ -48,6 +49,7 @@ pub fn number_of(r: Refusal) -> u32
         Refusal::OffScale => 16,
         Refusal::ChangedSince => 18,
         Refusal::OutputFull => 19,
+        Refusal::Unreadable => 20,
         Refusal::NotRun => 21,
     }
 }

@@ -2,7 +2,7 @@
 use mathlib.Core.Path.{_≡_}
 use native.Mathlib.Omega.{arith}
 use Rattle.rules.specs.Refusal.{Refusal, number}
-use Rattle.rules.specs.Refusal.{short, outOfTurn, badLength, offRange, noSuchName, badExpression, noHalt, tooMany, tooLong, noReading, stuck, pastLimit, outOfSteps, outOfRoom, labelBroken, offScale, changedSince, outputFull, notRun}
+use Rattle.rules.specs.Refusal.{short, outOfTurn, badLength, offRange, noSuchName, badExpression, noHalt, tooMany, tooLong, noReading, stuck, pastLimit, outOfSteps, outOfRoom, labelBroken, offScale, changedSince, outputFull, unreadable, notRun}
 
 pub positive : (r : Refusal) → number r ≡ 0 → ⊥
 positive short e = omega arith
@@ -23,4 +23,5 @@ positive labelBroken e = omega arith
 positive offScale e = omega arith
 positive changedSince e = omega arith
 positive outputFull e = omega arith
+positive unreadable e = omega arith
 positive notRun e = omega arith

@@ -19,21 +19,21 @@ use Rattle.rules.proofs.Values.{unsigned-small}
 use Rattle.rules.proofs.StatementBytes.{code-known}
 
 -- one byte, then others
-byte : (b : ℕ) {bs : Bytes} → b < 256 → AreBytes bs → AreBytes (b ∷ bs)
+pub byte : (b : ℕ) {bs : Bytes} → b < 256 → AreBytes bs → AreBytes (b ∷ bs)
 byte b h k = h & k
 
 -- ---- numbers and fields
 
-two-bytes : (n : ℕ) → n < 65536 → AreBytes (two n)
+pub two-bytes : (n : ℕ) → n < 65536 → AreBytes (two n)
 two-bytes n h = byte (n / 256) (omega arith) (byte (n % 256) (omega arith) nil)
 
-four-bytes : (n : ℕ) → n < 4294967296 → AreBytes (four n)
+pub four-bytes : (n : ℕ) → n < 4294967296 → AreBytes (four n)
 four-bytes n h = each-both (two (n / 65536)) (two (n % 65536)) (two-bytes (n / 65536) (omega arith)) (two-bytes (n % 65536) (omega arith))
 
-value-bytes : (z : ℤ) → Value z → AreBytes (encodeValue z)
+pub value-bytes : (z : ℤ) → Value z → AreBytes (encodeValue z)
 value-bytes z v = four-bytes (unsigned z) (unsigned-small z v)
 
-field-bytes : (tag : ℕ) (body : Bytes) → tag < 256 → length body < 65536 → AreBytes body → AreBytes (field tag body)
+pub field-bytes : (tag : ℕ) (body : Bytes) → tag < 256 → length body < 65536 → AreBytes body → AreBytes (field tag body)
 field-bytes tag body t n b = byte tag t (each-both (two (length body)) body (two-bytes (length body) n) b)
 
 range-bytes : (tag : ℕ) → tag < 256 → (i : Interval) → RangeFits i → AreBytes (encodeRange tag i)
@@ -52,7 +52,7 @@ header-bytes h f =
 
 -- ---- expressions, where at most 8 registers are named
 
-operator-byte : (o : Operator) → operatorCode o < 256
+pub operator-byte : (o : Operator) → operatorCode o < 256
 operator-byte plus = omega arith
 operator-byte minus = omega arith
 operator-byte times = omega arith

@@ -39,6 +39,8 @@ pub data Refusal : Type 0 where
   changedSince : Refusal
   -- a lent output is too short (02, ticket 7: "19 for a short copy buffer")
   outputFull : Refusal
+  -- a text cannot be read (02, ticket 2: "20 unreadable text or a line out of turn or missing")
+  unreadable : Refusal
   -- a record is not a run of the sheet (02, ticket 9: "21 not a run")
   notRun : Refusal
 
@@ -61,6 +63,7 @@ number labelBroken = 15
 number offScale = 16
 number changedSince = 18
 number outputFull = 19
+number unreadable = 20
 number notRun = 21
 
 pub data Result (A : Type 0) : Type 0 where

@@ -9,7 +9,7 @@ use Rattle.rules.specs.Base.{Each, _&_}
 use Rattle.rules.specs.Format.{Bytes}
 use Rattle.rules.specs.Product.{decimal}
 use Rattle.writing.specs.Out.{Writes, lineOf}
-use Rattle.writing.proofs.Written.{text-then}
+use Rattle.writing.proofs.Written.{text-then, writes-end}
 use Rattle.writing.proofs.Decimal.{number-length}
 
 -- one number more before the others
@@ -32,3 +32,7 @@ line-length k (n ∷ m ∷ ms) (h & f) =
     let y = line-length k (m ∷ ms) f in
     let z : (k + 2) * suc (length (m ∷ ms)) ≡ (k + 2) * length (m ∷ ms) + (k + 2) = mul-suc (k + 2) (length (m ∷ ms)) in
     omega arith
+
+-- so it ends in a buffer that has room for it
+pub line-ends : (k : ℕ) (ns : List ℕ) → Each (λ n. n < 10 ^ suc k) ns → (l m : Bytes) (a r : ℕ) → Writes (lineOf ns) l a m r → a + (k + 2) * length ns ≤ length l → r ≤ a + (k + 2) * length ns
+line-ends k ns f l m a r w h = let x = line-length k ns f in let e = writes-end (lineOf ns) l m a r w (omega arith) in omega arith

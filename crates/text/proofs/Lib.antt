@@ -1,0 +1,33 @@
+-- No reader leaves more than it was given; and one turn of each loop; lines in turn; the sheet of a text reads as what the text says;
+-- where a text stops, it cannot go on with that byte, and what stands before can; the answer, the worked rows and the claims.
+pub mod Chain
+pub mod Within
+pub mod Turns
+pub mod LinesWithin
+pub mod InTurn
+pub mod SheetBytes
+pub mod Fields
+pub mod LinesFit
+pub mod Decode
+pub mod DecodeLine
+pub mod Means
+pub mod Orderly
+pub mod OrderlyWords
+pub mod OrderlyChain
+pub mod OrderlyExpression
+pub mod OrderlyLines
+pub mod OrderlyText
+pub mod CannotGoOn
+pub mod Follows
+pub mod Completes
+pub mod CompletesWords
+pub mod CompletesNumbers
+pub mod CompletesChain
+pub mod CompletesArith
+pub mod CompletesTest
+pub mod CompletesLines
+pub mod CompletesText
+pub mod Answer
+pub mod Compute
+pub mod Worked
+pub mod Claims
