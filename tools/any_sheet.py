@@ -195,7 +195,7 @@ def line_field(line, registers):
 
 def assemble(lines):
     """The bytes of a sheet."""
-    lines = [" ".join(line.split()) for line in lines]
+    lines = [re.sub(r" ?\.\. ?", "..", " ".join(line.split())) for line in lines]
     lines = [line for line in lines if line]
     sheet, behind = b"", 0
     for line in reversed(lines[4:]):

@@ -11,11 +11,10 @@ mod zumbeiry;
 #[allow(dead_code)]
 mod zumbeiry_convert;
 
+use std::env;
 use std::hint::black_box;
-use std::path::Path;
 use std::time::Duration;
-use std::{env, fs};
-use timing::timed;
+use timing::{named, repeated, timed};
 use zumbeiry::check;
 use zumbeiry_convert::{convert, MOST_BYTES};
 
@@ -35,19 +34,13 @@ struct Case {
 
 impl Case {
     fn of(file: String) -> Case {
-        let text = fs::read(&file).unwrap_or_else(|error| panic!("{file}: {error}"));
-        let name = Path::new(&file).file_stem().unwrap_or_default().to_string_lossy().into_owned();
+        let (name, text) = named(&file);
         Case { name, text, sheet: vec![0; MOST_BYTES], answer: [0; 3], best: [Duration::MAX; 2] }
     }
 
     fn run(&mut self) {
         let Case { text, sheet, best, .. } = self;
-        self.answer = timed(&mut best[0], || {
-            for _ in 1..CALLS {
-                black_box(convert(black_box(text), black_box(sheet)));
-            }
-            convert(black_box(text), black_box(sheet))
-        });
+        self.answer = repeated(CALLS, &mut best[0], || convert(black_box(text), black_box(sheet)));
         if self.answer[0] == 0 {
             let reads = &sheet[..self.answer[2] as usize];
             assert_eq!(timed(&mut best[1], || check(black_box(reads), &mut [])), OUT_OF_ROOM, "{}", self.name);

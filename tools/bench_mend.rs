@@ -12,11 +12,10 @@ mod zumbeiry;
 #[allow(dead_code)]
 mod zumbeiry_mend;
 
+use std::env;
 use std::hint::black_box;
-use std::path::Path;
 use std::time::Duration;
-use std::{env, fs};
-use timing::timed;
+use timing::{named, repeated};
 use zumbeiry::check;
 use zumbeiry_mend::{mend, MOST_LISTED};
 
@@ -24,16 +23,6 @@ const RUNS: usize = 20;
 const CALLS: u32 = 100;
 const OUT_OF_ROOM: [u64; 5] = [14, 0, 0, 0, 0];
 const HALTS: usize = 4 * 8; // the bytes of as many halts as may be added
-
-/// What the last of the calls gives; the best time of them all becomes their own, if that was shorter.
-fn repeated<T>(best: &mut Duration, mut call: impl FnMut() -> T) -> T {
-    timed(best, || {
-        for _ in 1..CALLS {
-            black_box(call());
-        }
-        call()
-    })
-}
 
 struct Case {
     name: String,
@@ -49,19 +38,18 @@ struct Case {
 
 impl Case {
     fn of(file: String) -> Case {
-        let sheet = fs::read(&file).unwrap_or_else(|error| panic!("{file}: {error}"));
-        let name = Path::new(&file).file_stem().unwrap_or_default().to_string_lossy().into_owned();
+        let (name, sheet) = named(&file);
         let (mended, changes) = (vec![0; sheet.len() + HALTS], vec![0; MOST_LISTED]);
         Case { name, sheet, mended, changes, written: 0, listed: 0, best: [Duration::MAX; 2] }
     }
 
     fn run(&mut self) {
         let Case { sheet, mended, changes, best, .. } = self;
-        let answer = repeated(&mut best[0], || mend(black_box(sheet), black_box(mended), black_box(changes)));
+        let answer = repeated(CALLS, &mut best[0], || mend(black_box(sheet), black_box(mended), black_box(changes)));
         let [0, 0, written, listed] = answer else { panic!("{} is refused: {answer:?}", self.name) };
         (self.written, self.listed) = (written as usize, listed);
         let reads = &mended[..self.written];
-        assert_eq!(repeated(&mut best[1], || check(black_box(reads), &mut [])), OUT_OF_ROOM);
+        assert_eq!(repeated(CALLS, &mut best[1], || check(black_box(reads), &mut [])), OUT_OF_ROOM);
         let mut copy = vec![0; reads.len()];
         assert_eq!(mend(reads, &mut copy, &mut []), [0, 0, written, 0]);
         assert!(copy == reads, "{} is not copied", self.name);

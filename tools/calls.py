@@ -12,8 +12,8 @@ ROOT = os.path.dirname(os.path.dirname(os.path.realpath(__file__)))
 B = bytes.fromhex("010010 0000000A 00000064 00000002 00000003 030001 00 040001 00 060005 0002 0003 01 060005 0000 0000 00")
 
 # the modules of the command
-PARTS = ("fields", "given", "mark", "options", "programs", "usages", "words")
-PARTS += ("checker", "lookup", "follower", "times", "preview", "take_back", "mend", "convert")
+PARTS = ("fields", "given", "mark", "options", "output", "programs", "usages", "words")
+PARTS += ("checker", "lookup", "follower", "times", "preview", "take_back", "mend", "convert", "printer", "compare")
 
 counts = {True: 0, False: 0}  # what held, and what did not
 
@@ -58,8 +58,30 @@ def text_of(*parts):
         return file.read()
 
 
-def as_in_readme(verb, many):
-    """README's examples of a verb, or of what begins like this pattern, so many, are followed by what they write."""
+def texts_that_read():
+    """The names of the texts of sheets/ but the mistyped ones."""
+    names = sorted(os.listdir(os.path.join(ROOT, "sheets"))) + ["forms/loose.txt"]
+    return [name for name in names if name.endswith(".txt") and not name.startswith("mistyped")]
+
+
+def tells_words(verb, listed, ends, asked, others, options):
+    """What a verb says of the words behind it: its help, its line in the list of verbs, what it asks where there are others, and options
+    that it does not have."""
+    for arguments in (["--help"], ["x", "-h"]):
+        Call(verb, *arguments).gives(0, f"usage: ./zumbeiry {verb} ", f"Ends with 0 if {ends}")
+    Call("--help").gives(0, f"\n  {verb} {listed} ")
+    for arguments in others:
+        cannot(Call(verb, *arguments), asked)
+    for option in options:
+        cannot(Call(verb, option, "sheet"), f"there is no option {option}")
+
+
+def as_in_readme(verb, many, made=None):
+    """README's examples of a verb, or of what begins like this pattern, so many, are followed by what they write. The file of target/
+    that they make, if any, is not there before."""
+    path = os.path.join(ROOT, "target", made) if made else ""
+    if os.path.exists(path):
+        os.unlink(path)
     examples = re.findall(rf"^    \./zumbeiry ((?:{verb}) .*)\n\n((?:    .*\n)+)", text_of("README.md"), re.MULTILINE)
     expect(f"README.md has {many} examples of {verb}", len(examples) == many, examples)
     for command, shown in examples:
@@ -90,7 +112,7 @@ def copied(folder):
     for name in PARTS:
         shutil.copy(os.path.join(ROOT, "tools", f"{name}.py"), os.path.join(copy, "tools"))
     crates = "label:\nlabel_main: label io # a comment\nshelf_main: io\nrecord_main: io\nretime_main: io\nmend_main: io\n"
-    crates += "text_main: io\n"
+    crates += "text_main: io\nprint_main: io\n"
     in_folder(copy, "crates.txt", crates.encode())
     in_folder(copy, os.path.join("crates", "label", "src", "lib.rt"), b"")
     return copy

@@ -5,14 +5,12 @@ text: whether it can be read, and where it cannot, is for the proved program to 
 """
 
 import re
-from typing import NamedTuple
 
 import mark
+import output
 import words
 from fields import heads
-from given import hand_over
-from programs import CannotRun, no_answer, run
-from times import NUMBER
+from programs import CannotRun, program
 
 PROGRAM = "text_main"
 LONGEST = 16_384  # bytes of a sheet
@@ -74,20 +72,6 @@ STATEMENT = "a statement (its times first, or halt)"
 DUE = dict.fromkeys((b"locks", b"var"), "var or thread") | dict.fromkeys((b"thread", b"reg"), f"reg, or {STATEMENT}")
 LINE_WORDS = (*HEADERS, b"var", b"thread", b"reg", b"halt")
 
-REFUSED = re.compile(rb"(%s) (%s)\n" % (NUMBER, NUMBER))
-
-
-class Answer(NamedTuple):
-    """What the program gives."""
-
-    refusal: int
-    place: int  # in the text
-    sheet: bytes  # empty where it is refused
-
-    @property
-    def numbers(self):
-        return f"{self.refusal} {self.place} {len(self.sheet)}"
-
 
 # ---- what the program answers
 
@@ -118,7 +102,7 @@ def places_of(text, sheet):
 def fits(answer, text):
     """Whether an answer can be one to this text."""
     if answer.refusal == 0:
-        return len(answer.sheet) <= LONGEST and places_of(text, answer.sheet) is not None
+        return len(answer.output) <= LONGEST and places_of(text, answer.output) is not None
     if answer.refusal in OF_LINE:
         return answer.place < len(text) and (answer.place == 0 or text[answer.place - 1] == 10)
     return answer.place <= len(text) if answer.refusal == 20 else answer.refusal in (9, 19) and answer.place == 0
@@ -126,12 +110,7 @@ def fits(answer, text):
 
 def call(path, text):
     """What the program at the path answers."""
-    out, err = run(path, given=text)
-    line = REFUSED.fullmatch(err)
-    answer = Answer(int(line[1]), int(line[2]), out) if line else Answer(0, 0, out)
-    if bool(out) == (not err) and fits(answer, text):
-        return answer
-    raise no_answer(PROGRAM, err)
+    return output.call(path, text, fits)
 
 
 def take(given, path):
@@ -140,8 +119,15 @@ def take(given, path):
     if answer.refusal != 0:
         given.refused = answer
     else:
-        given.sheet, given.places = answer.sheet, places_of(given.typed, answer.sheet)
+        given.sheet, given.places = answer.output, places_of(given.typed, answer.output)
         given.text = given.typed.decode("ascii", "replace").split("\n")
+
+
+def converted(given):
+    """A sheet that was given; one that was typed goes through the proved converter, which may refuse it."""
+    if given.typed is not None:
+        take(given, program(PROGRAM))
+    return given
 
 
 def tried(given, path):
@@ -190,7 +176,7 @@ def refused_lines(answer, text):
 def explain(answer, text, *before):
     """The lines of words below the numbers, those given first among a refusal's."""
     if answer.refusal == 0:
-        return [f"converted: {words.number(len(lines_of(text)), 'line')}, a sheet of {words.number(len(answer.sheet), 'byte')}"]
+        return [f"converted: {words.number(len(lines_of(text)), 'line')}, a sheet of {words.number(len(answer.output), 'byte')}"]
     lines = words.refused(answer.refusal, REFUSALS[answer.refusal], [*before, *refused_lines(answer, text)])
     if text[:1] == b"\x01":
         lines.append("  (it begins with byte 1, as the bytes of a sheet do: it may be a sheet already)")
@@ -209,8 +195,6 @@ def unconverted(given, form, options, before=(), behind=()):
 def write(answer, name):
     """Puts the sheet into a new file of that name, - being standard output, unless it is refused or none is named; says what was
     done."""
-    if answer.refusal != 0:
-        return "nothing is written"
-    if name is None:
-        return "nothing is written: name a new file behind TEXT, and the sheet goes there"
-    return f"written: {hand_over(name, answer.sheet)} has the sheet, {words.number(len(answer.sheet), 'byte')}"
+    if answer.refusal == 0 and name is None:
+        return f"{output.NOTHING}: name a new file behind TEXT, and the sheet goes there"
+    return output.write(answer, name, "the sheet")

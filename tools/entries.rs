@@ -1,7 +1,7 @@
-//! What the corpora of lookups, of records, of new times, of chains, of mends and of texts have in common: entries
-//! of two files each, with the numbers that are due for them. lookup_corpus.rs, record_corpus.rs, retime_corpus.rs,
-//! chain_corpus.rs, mend_corpus.rs and text_corpus.rs say what stands in an entry's front. Numbers have the high
-//! byte first:
+//! What the corpora of lookups, of records, of new times, of chains, of mends, of texts and of printed sheets have in
+//! common: entries of two files each, with the numbers that are due for them. lookup_corpus.rs, record_corpus.rs,
+//! retime_corpus.rs, chain_corpus.rs, mend_corpus.rs, text_corpus.rs and print_corpus.rs say what stands in an entry's
+//! front. Numbers have the high byte first:
 //!
 //!     entries                       4 bytes
 //!     then for each entry
@@ -74,6 +74,18 @@ impl<C: Clone + Ord> Cases<C> {
             self.all.push(case);
         }
         new
+    }
+
+    /// So many of the cases that are drawn with their refusals; of each refusal at most its share of a hundred.
+    pub fn draw(&mut self, count: usize, shares: &[usize], mut drawn: impl FnMut() -> (C, u8)) {
+        let mut of = vec![0; shares.len()];
+        while of.iter().sum::<usize>() < count {
+            let (case, refusal) = drawn();
+            let refusal = usize::from(refusal);
+            if of[refusal] * 100 < shares[refusal] * count && self.put(case) {
+                of[refusal] += 1;
+            }
+        }
     }
 }
 

@@ -1,5 +1,6 @@
 //! Fields of a tag, a length and a body: how one is made, and where the body of one that is due
-//! stands. A module of shelves.rs, records.rs, retimes.rs, chains.rs, mends.rs and texts.rs.
+//! stands. A module of shelves.rs, records.rs, retimes.rs, chains.rs, mends.rs, texts.rs and
+//! prints.rs.
 
 use std::ops::Range;
 

@@ -1,33 +1,20 @@
 /* Prints where the sheet with a name stands in the customer's file or else in ours: refusal, file, place, size. */
+#include "caller.h"
 #include "zumbeiry.h"
-
-#include <inttypes.h>
-#include <stdio.h>
-#include <stdlib.h>
 
 #define MOST_BYTES 1000000
 
-static uint8_t customer[MOST_BYTES];
-static uint8_t house[MOST_BYTES];
+static uint8_t customer[MOST_BYTES + 1];
+static uint8_t house[MOST_BYTES + 1];
 
 /* The bytes of a file, and how many there are; the program ends if it cannot be read whole. */
-static size_t read_file(const char *path, uint8_t *bytes)
+static size_t read_whole(const char *path, uint8_t *bytes)
 {
-    FILE *file = fopen(path, "rb");
-    if (file == NULL) {
-        perror(path);
-        exit(2);
-    }
-    size_t length = fread(bytes, 1, MOST_BYTES, file);
-    if (ferror(file)) {
-        perror(path);
-        exit(2);
-    }
-    if (fgetc(file) != EOF) {
+    size_t length = read_file(path, bytes, MOST_BYTES + 1);
+    if (length > MOST_BYTES) {
         fprintf(stderr, "%s: more than %d bytes\n", path, MOST_BYTES);
         exit(2);
     }
-    fclose(file);
     return length;
 }
 
@@ -47,8 +34,8 @@ int main(int count, char **arguments)
         fprintf(stderr, "usage: find NAME HIS OURS, NAME from 0 to 255\n");
         return 2;
     }
-    size_t customer_length = read_file(arguments[2], customer);
-    size_t house_length = read_file(arguments[3], house);
+    size_t customer_length = read_whole(arguments[2], customer);
+    size_t house_length = read_whole(arguments[3], house);
 
     uint64_t answer[4];
     uint32_t refusal = zumbeiry_find((uint8_t)name, customer, customer_length, house, house_length, answer, 4);

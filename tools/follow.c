@@ -1,30 +1,10 @@
 /* Prints the five numbers of a record that is followed through its sheet: refusal, file, place, finished, tick. */
+#include "caller.h"
 #include "zumbeiry.h"
-
-#include <inttypes.h>
-#include <stdio.h>
-#include <stdlib.h>
 
 /* One byte more than the longest sheet and the longest record that are read: a longer file is refused like this one. */
 static uint8_t sheet[16385];
 static uint8_t record[65537];
-
-/* The bytes of a file, and how many there are; the program ends if it cannot be read. */
-static size_t read_file(const char *path, uint8_t *bytes, size_t most)
-{
-    FILE *file = fopen(path, "rb");
-    if (file == NULL) {
-        perror(path);
-        exit(2);
-    }
-    size_t length = fread(bytes, 1, most, file);
-    if (ferror(file)) {
-        perror(path);
-        exit(2);
-    }
-    fclose(file);
-    return length;
-}
 
 int main(int count, char **arguments)
 {

@@ -411,6 +411,16 @@ impl Generator {
         }
     }
 
+    /// The sheet of such an entry, of at most so many bytes and of some.
+    pub fn short_sheet(&mut self, most: usize) -> Vec<u8> {
+        loop {
+            let sheet = self.entry().sheet;
+            if (1..=most).contains(&sheet.len()) {
+                return sheet;
+            }
+        }
+    }
+
     // ---- parts
 
     fn value(&mut self) -> i32 {

@@ -8,7 +8,7 @@ import stat
 import sys
 import tempfile
 
-from options import FORMS
+from options import FORMS, one_form, one_or_two
 from programs import CannotRun, reason
 
 # A file longer than this is not read to its end: the converter takes no longer text, and a sheet has at most 16,384 bytes.
@@ -109,6 +109,17 @@ def creatable(given, name, kind):
         raise CannotRun(f"{name}: this is {kind} itself, which is left as it is; name a new file")
     if os.path.lexists(name):
         raise CannotRun(f"{name}: there is such a file already; name a new one")
+
+
+def given_and_new(names, options, asked, kind="SHEET"):
+    """What is given in the first file named, and the name of a second one, which is not there yet, - or None; what is asked is told
+    where the words are others."""
+    name, new = one_or_two(names, asked)
+    one_form(options)
+    given = Given(name, read(name), options)
+    if new not in (None, "-"):
+        creatable(given, new, kind)
+    return given, new
 
 
 def create(name, new):

@@ -9,6 +9,8 @@ from typing import NamedTuple
 
 import words
 from fields import field, heads
+from given import read, whole
+from options import once
 from programs import CannotRun, no_answer, run_on
 
 NAME, SHEET = 48, 49  # the tags
@@ -62,6 +64,17 @@ def name_of(word):
     if not found or int(found[1]) > 255:
         raise CannotRun(f"a name is a number from 0 to 255, not {word!r}")
     return int(found[1])
+
+
+def asked_of(options, given):
+    """The name to look for, and the two files with their bytes."""
+    if len(given) != 3:
+        raise CannotRun("find which NAME in which files, HIS and OURS? (./zumbeiry find --help)")
+    name, files = name_of(given[0]), given[1:]
+    if "--numbers" in options and "--check" not in options:
+        raise CannotRun("--numbers is for --check: a sheet is written as its bytes")
+    once(files)
+    return name, [(file, whole(file, read(file), "file", MOST_READ)) for file in files]
 
 
 def look(path, name, files):

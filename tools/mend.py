@@ -8,6 +8,7 @@ import re
 import struct
 from typing import NamedTuple, Optional
 
+import output
 import words
 from fields import heads
 from given import hand_over
@@ -189,9 +190,7 @@ def unhealed(answer, sheet):
 def explain(answer, given, name):
     """The lines of words below the numbers; the name is that of the new file, or None."""
     if answer.refusal != 0:
-        lines = words.sheet_lines(answer, given.sheet, given.text, given.places) + unhealed(answer, given.sheet)
-        row = REFUSALS.get(answer.refusal) or words.REFUSALS[answer.refusal]
-        return words.refused(answer.refusal, row, lines) + given.hint(answer)
+        return output.refused(answer, given, REFUSALS, unhealed(answer, given.sheet))
     if not answer.changes:
         return ["nothing to mend: the sheet reads well as it is" + (", and is copied" if name else "")]
     return [f"mended, {words.number(len(answer.changes), 'change')}:", *("  " + line for line in change_lines(given.sheet))]

@@ -1,5 +1,6 @@
 //! What the card writer does to a sheet: it exchanges low and high ends and drops a thread's closing halt.
-//! Written beside the mend and not with it, so that the tests can undo by this what the mend lists.
+//! Written beside the mend and not with it, so that the tests can undo by this what the mend lists. A module of mends.rs
+//! and prints.rs.
 
 use crate::generator::fields;
 use crate::sheet_parts::*;

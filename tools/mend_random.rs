@@ -2,10 +2,10 @@
 //! serves to choose cases of each refusal.
 
 use crate::entries::Cases;
-use crate::generator::{fields, Generator, Random};
+use crate::generator::{Generator, Random};
 use crate::mend_answer::{answered, Case};
 use crate::mend_cases::needed;
-use crate::mend_garbled::{closing_halts, crossable, exchange, garbled};
+use crate::mend_garbled::{closing_halts, crossable, garbled};
 
 /// Sheets of more bytes are not taken.
 const MOST_BYTES: usize = 200;
@@ -19,29 +19,6 @@ impl Random {
         let crossed: Vec<usize> = crossable(sheet).into_iter().filter(|_| self.chance(ends)).collect();
         let dropped: Vec<usize> = closing_halts(sheet).into_iter().filter(|_| self.chance(halts)).collect();
         garbled(sheet, &crossed, &dropped)
-    }
-
-    /// A byte, a header, a field or the end of the sheet otherwise.
-    fn damage(&mut self, mut sheet: Vec<u8>) -> Vec<u8> {
-        let places = fields(&sheet);
-        let (Some(&last), false) = (places.last(), places.len() < 2) else { return sheet };
-        let nth = self.below(places.len() - 1);
-        let (place, next) = (places[nth], places[nth + 1]);
-        match self.below(9) {
-            0 => sheet.truncate(last + self.below(9)),
-            1 => sheet.truncate(place + self.below(next - place)),
-            2 => sheet[place] = self.below(8) as u8,
-            3 => sheet[place + 2] = sheet[place + 2].wrapping_add(self.pick(&[1, 255])),
-            4 => drop(sheet.drain(place..next)),
-            5 => drop(sheet.splice(place..place, sheet[place..next].to_vec())),
-            6 => sheet.extend((0..1 + self.below(4)).map(|_| self.below(7) as u8).collect::<Vec<_>>()),
-            7 => exchange(&mut sheet, place),
-            _ => {
-                let at = self.below(sheet.len());
-                sheet[at] ^= 1 << self.below(8);
-            }
-        }
-        sheet
     }
 
     /// The sheet garbled, and now and then damaged.
@@ -69,20 +46,14 @@ impl Cases<Case> {
     /// So many random cases, not too many of one refusal.
     pub fn random(&mut self, seed: u64, count: usize) {
         let mut generator = Generator::new(seed);
-        let mut of = [0; SHARES.len()];
-        while of.iter().sum::<usize>() < count {
-            let sheet = generator.entry().sheet;
-            if sheet.len() > MOST_BYTES || sheet.is_empty() {
-                continue;
-            }
+        self.draw(count, &SHARES, || {
+            let sheet = generator.short_sheet(MOST_BYTES);
             let random = &mut generator.random;
             let sheet = random.garbled_and_damaged(&sheet);
             let (bytes, numbers) = needed(&sheet);
             let case = Case { sheet, room: random.lent(bytes), numbers: random.lent(numbers) };
-            let refusal = usize::from(answered(&case).refusal);
-            if of[refusal] * 100 < SHARES[refusal] * count && self.put(case) {
-                of[refusal] += 1;
-            }
-        }
+            let refusal = answered(&case).refusal;
+            (case, refusal)
+        });
     }
 }

@@ -48,6 +48,7 @@ mod mend_tests;
 mod oracle;
 #[allow(dead_code)]
 mod retime_sheets;
+mod sheet_damage;
 #[allow(dead_code)]
 mod sheet_parts;
 

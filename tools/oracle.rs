@@ -796,7 +796,7 @@ pub fn check(sheet: &[u8], length: usize) -> Answer {
 }
 
 /// Number and place with which the fields of a sheet are refused, whatever its length; None if they read.
-#[allow(dead_code)] // mends.rs and texts.rs ask for it
+#[allow(dead_code)] // mends.rs, texts.rs and the tests of prints.rs ask for it
 pub fn fields_refused(sheet: &[u8]) -> Option<(u8, usize)> {
     read_fields(sheet).err().map(|Refusal { number, place }| (number, place))
 }

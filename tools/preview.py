@@ -3,6 +3,7 @@
 import re
 from typing import NamedTuple
 
+import take_back
 import words
 from given import rewrite
 from programs import no_answer, run_on
@@ -150,3 +151,17 @@ def write(given, new, then):
     rewrite(given, new)
     refused = "" if then.refusal == 0 else "; the check now refuses it, as shown"
     return f"written: {given.name} has the new times{refused}"
+
+
+def write_times(path, sheet, asked, then, numbers):
+    """Puts the new times into the file, unless they are refused, and tells how the change is taken back. Of numbers this is told
+    before anything is written, so that the old times stand somewhere however this ends; the words have told them already."""
+    if then.refusal not in OF_CHECK:
+        print("" if numbers else "nothing is written\n", end="", flush=True)
+        return
+    change, new = changed(path, sheet.sheet, asked)
+    if numbers:
+        print(take_back.behind(change), flush=True)
+    told = write(sheet, new, then)
+    if not numbers:
+        print(told, f"to take it back: {take_back.line(sheet.name, change)}", sep="\n", flush=True)

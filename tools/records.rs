@@ -18,6 +18,7 @@
 //! to say whether a sheet reads, generator.rs for random sheets.
 
 mod command_line;
+#[allow(dead_code)]
 mod entries;
 mod field;
 #[allow(dead_code)]

@@ -4,33 +4,15 @@
  * old times and new times. With these last six and the word back it takes the change back: the sheet before it goes to standard output,
  * refusal and place to standard error.
  */
+#include "caller.h"
 #include "zumbeiry.h"
 
-#include <inttypes.h>
-#include <stdio.h>
-#include <stdlib.h>
 #include <string.h>
 
 /* One byte more than the longest sheet that is read: a longer file is refused like this one. */
 static uint8_t sheet[16385];
 static uint8_t copy[16385];
 static int32_t work[12000];
-
-static size_t read_sheet(const char *path)
-{
-    FILE *file = fopen(path, "rb");
-    if (file == NULL) {
-        perror(path);
-        exit(2);
-    }
-    size_t length = fread(sheet, 1, sizeof sheet, file);
-    if (ferror(file)) {
-        perror(path);
-        exit(2);
-    }
-    fclose(file);
-    return length;
-}
 
 /* The number that decimal digits give; the program ends if it does not fit 64 bits, or if there is something else. */
 static uint64_t number_of(const char *digits)
@@ -79,7 +61,7 @@ int main(int count, char **arguments)
                         "       retime SHEET THREAD STATEMENT OLD_LEAST OLD_GREATEST NEW_LEAST NEW_GREATEST back\n");
         return 2;
     }
-    size_t length = read_sheet(arguments[1]);
+    size_t length = read_file(arguments[1], sheet, sizeof sheet);
     size_t thread = number_of(arguments[2]), statement = number_of(arguments[3]);
     uint64_t least = number_of(arguments[4]), greatest = number_of(arguments[5]);
 

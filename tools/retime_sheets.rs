@@ -1,5 +1,5 @@
 //! The sheets chosen by hand whose statements get new times: the paper's, and some whose search gives
-//! another refusal with other times. A module of retimes.rs, chains.rs, mends.rs and texts.rs.
+//! another refusal with other times. A module of retimes.rs, chains.rs, mends.rs, texts.rs and prints.rs.
 
 use crate::sheet_parts::*;
 

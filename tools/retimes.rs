@@ -24,6 +24,7 @@
 //! searches sheets, generator.rs serves for random sheets.
 
 mod command_line;
+#[allow(dead_code)]
 mod entries;
 mod fault_pairs;
 #[allow(dead_code)]

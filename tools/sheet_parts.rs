@@ -1,5 +1,5 @@
 //! Sheets made of their parts, and sheets that do not read. A module of records.rs, retimes.rs, chains.rs,
-//! mends.rs and texts.rs.
+//! mends.rs, texts.rs and prints.rs.
 
 use crate::field::field;
 

@@ -1,4 +1,4 @@
-//! Whether a sheet reads, by oracle.rs. A module of records.rs, retimes.rs and chains.rs.
+//! Whether a sheet reads, by oracle.rs. A module of records.rs, retimes.rs, chains.rs and prints.rs.
 
 use crate::field::Fault;
 use crate::oracle::check;

@@ -19,14 +19,12 @@ from fields import field
 from given import Given, read
 from mark import line_and_column
 from options import once
-from programs import CannotRun, program, reason
+from programs import CannotRun, reason
 
 
 def bytes_of(file):
     """The bytes of the sheet in a file."""
-    given = Given(file, read(file), set())
-    if given.typed is not None:
-        convert.take(given, program(convert.PROGRAM))
+    given = convert.converted(Given(file, read(file), set()))
     if given.refused:
         refusal, place, _ = given.refused
         at = ": line {}, column {}".format(*line_and_column(given.typed, place)) if refusal in convert.WITH_LINE else ""

@@ -15,6 +15,7 @@
 //! command_line.rs have what serves other programs too. Sentences in quotation marks are those of the specification.
 
 mod command_line;
+#[allow(dead_code)]
 mod entries;
 mod field;
 mod lookup_cases;

@@ -119,6 +119,18 @@ class Program:
         told = f"{slips} slips, {slips - noticed[0]} unnoticed; {same_rules} same rules, {noticed[1]} noticed"
         return told, noticed == [slips, 0]
 
+    def main(self, arguments, usage):
+        """Tries what a command line asks for: `[--only WORD] CORPUS`."""
+        only = ""
+        if len(arguments) == 3 and arguments[0] == "--only":
+            only, arguments = arguments[1], arguments[2:]
+        if len(arguments) != 1:
+            sys.exit(usage)
+        with tempfile.TemporaryDirectory() as folder:
+            told, well = self.try_all(arguments[0], folder, only)
+        print(told)
+        sys.exit(not well)
+
 
 ORACLE = Program("oracle")
 REACHED = []

@@ -1,17 +1,16 @@
 /*
- * The stack that a call of zumbeiry_check, zumbeiry_change_times, zumbeiry_take_back, zumbeiry_preview and zumbeiry_mend uses: with each
- * sheet of a corpus each is made on a painted stack, and the deepest byte that changed is found. The new times, and the old ones, are
- * those that the sheet's first statement has, so that the preview gives the numbers of the check, and the change and its taking back
- * leave the sheet as it is. And that of zumbeiry_convert, with each of the texts.
+ * The stack that a call of zumbeiry_check, zumbeiry_change_times, zumbeiry_take_back, zumbeiry_preview, zumbeiry_mend and zumbeiry_print
+ * uses: with each sheet of a corpus each is made on a painted stack, and the deepest byte that changed is found. The new times, and the
+ * old ones, are those that the sheet's first statement has, so that the preview gives the numbers of the check, and the change and its
+ * taking back leave the sheet as it is. And that of zumbeiry_convert, with each of the texts, and of zumbeiry_print with its sheet.
  *
  *     stack CORPUS TEXT..     corpus.rs describes the first file
  */
 #define _GNU_SOURCE
+#include "caller.h"
 #include "zumbeiry.h"
 
 #include <pthread.h>
-#include <stdio.h>
-#include <stdlib.h>
 
 #define STACK ((size_t)1 << 18)
 #define PAINT 0xA5
@@ -19,7 +18,7 @@
 #define WRONG 1  /* planted in an entry: one of its numbers is wrong on purpose */
 
 static unsigned char stack[STACK] __attribute__((aligned(4096)));
-static uint8_t *sheet, copy[65536], text[1 << 20];
+static uint8_t *sheet, copy[98304], text[1 << 20], converted[16384];
 static size_t sheet_length, text_length, work_length, least, greatest, depth;
 static int32_t work[65536];
 static uint32_t changes[1024];
@@ -50,9 +49,14 @@ static void mend(void)
     zumbeiry_mend(sheet, sheet_length, copy, sizeof copy, changes, 1024, answer, 4);
 }
 
+static void print(void)
+{
+    zumbeiry_print(sheet, sheet_length, copy, sizeof copy, answer, 3);
+}
+
 static void convert(void)
 {
-    zumbeiry_convert(text, text_length, copy, sizeof copy, answer, 3);
+    zumbeiry_convert(text, text_length, converted, sizeof converted, answer, 3);
 }
 
 struct measured {
@@ -67,9 +71,10 @@ static struct measured all[] = {
     {"zumbeiry_take_back", take_back, 0, 0},
     {"zumbeiry_preview", preview, 0, 0},
     {"zumbeiry_mend", mend, 0, 0},
+    {"zumbeiry_print", print, 0, 0},
 };
 static struct measured *const all_end = all + sizeof all / sizeof *all;
-static struct measured of_texts = {"zumbeiry_convert", convert, 0, 0};
+static struct measured of_texts[] = {{"zumbeiry_convert", convert, 0, 0}, {"zumbeiry_print", print, 0, 0}};
 
 /* The call comes from here, so that what lies below this frame is the call's. */
 static __attribute__((noinline)) void *painted(void *measured)
@@ -119,8 +124,8 @@ static void take_times(void)
 }
 
 /*
- * Whether the answer is what the entry says; of the change and its taking back, which do not search, 0 for a sheet that reads. Such a
- * sheet is copied by the mending; any other is refused, or changes are listed.
+ * Whether the answer is what the entry says; of the change, its taking back and the printing, which do not search, 0 for a sheet that
+ * reads. Such a sheet is copied by the mending; any other is refused, or changes are listed.
  */
 static int expected(const struct measured *measured, const uint8_t *entry)
 {
@@ -128,7 +133,7 @@ static int expected(const struct measured *measured, const uint8_t *entry)
         return 1;
     if (measured->call == mend)
         return (answer[0] == 0 && answer[3] == 0) == (entry[4] == 0 || entry[4] > 9);
-    if (measured->call == change || measured->call == take_back)
+    if (measured->call == change || measured->call == take_back || measured->call == print)
         return answer[0] == (entry[4] <= 9 ? entry[4] : 0);
     return answer[0] == entry[4] && answer[2] == number(entry + 7, 4);
 }
@@ -157,16 +162,16 @@ static void measure(uint8_t *entry, size_t index)
     }
 }
 
-static size_t read_file(const char *path, uint8_t *bytes, size_t most)
+/* Of a text that is refused the sheet is empty, and refused too. */
+static void measure_text(const char *path, size_t index)
 {
-    FILE *file = fopen(path, "rb");
-    if (file == NULL) {
-        perror(path);
-        exit(2);
-    }
-    size_t length = fread(bytes, 1, most, file);
-    fclose(file);
-    return length;
+    text_length = read_file(path, text, sizeof text);
+    run_painted(&of_texts[0]);
+    measured_at(&of_texts[0], index);
+    sheet = converted;
+    sheet_length = answer[2];
+    run_painted(&of_texts[1]);
+    measured_at(&of_texts[1], index);
 }
 
 int main(int count, char **arguments)
@@ -179,15 +184,12 @@ int main(int count, char **arguments)
     size_t length = read_file(arguments[1], corpus, sizeof corpus), entries = 0;
     for (size_t at = 4; at + FRONT <= length; at += FRONT + sheet_length)
         measure(corpus + at, entries++);
-    for (int at = 2; at < count; at++) {
-        text_length = read_file(arguments[at], text, sizeof text);
-        run_painted(&of_texts);
-        measured_at(&of_texts, (size_t)at);
-    }
+    for (int at = 2; at < count; at++)
+        measure_text(arguments[at], (size_t)at);
     printf("%zu sheets\n", entries);
     for (struct measured *measured = all; measured < all_end; measured++)
         printf("%s: at most %zu bytes of stack, on entry %zu\n", measured->name, measured->most, measured->entry);
-    if (count > 2)
-        printf("%s: at most %zu bytes of stack, on %s\n", of_texts.name, of_texts.most, arguments[of_texts.entry]);
+    for (struct measured *measured = of_texts; count > 2 && measured < of_texts + 2; measured++)
+        printf("%s: at most %zu bytes of stack, on %s\n", measured->name, measured->most, arguments[measured->entry]);
     return 0;
 }

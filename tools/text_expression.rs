@@ -1,20 +1,8 @@
 //! The expressions of a text, read into the bytes that a sheet has for them, operator first (02, ticket 2; 01, "The
 //! sheet"). Written from the papers; sentences in quotation marks are those of the papers.
 
+use crate::expression_codes::*;
 use crate::text_words::{Read, Text};
-
-const CONSTANT: u8 = 16;
-const REGISTER: u8 = 17;
-const PLUS: u8 = 18;
-const MINUS: u8 = 19;
-const TIMES: u8 = 20;
-const DIVIDE: u8 = 21;
-const TRUE: u8 = 32;
-const FALSE: u8 = 33;
-const NOT: u8 = 34;
-const AND: u8 = 35;
-const EQUAL: u8 = 36;
-const LESS: u8 = 37;
 
 /// "a parenthesis 33 deep included"
 const DEEPEST: usize = 32;

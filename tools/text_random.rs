@@ -108,10 +108,7 @@ impl Random {
 /// A random text, of a sheet that reads or does not.
 pub fn text(generator: &mut Generator, most: usize) -> Vec<u8> {
     loop {
-        let sheet = generator.entry().sheet;
-        if sheet.is_empty() || sheet.len() > most {
-            continue;
-        }
+        let sheet = generator.short_sheet(most);
         if let Some(text) = generator.random.printed(&sheet) {
             return text;
         }
@@ -122,8 +119,7 @@ impl Cases<Case> {
     /// So many random cases, not too many of one refusal.
     pub fn random(&mut self, seed: u64, count: usize) {
         let mut generator = Generator::new(seed);
-        let mut of = [0; SHARES.len()];
-        while of.iter().sum::<usize>() < count {
+        self.draw(count, &SHARES, || loop {
             let mut text = text(&mut generator, MOST_BYTES);
             let random = &mut generator.random;
             if random.chance(60) {
@@ -137,10 +133,8 @@ impl Cases<Case> {
                 bytes => random.room(bytes),
             };
             let case = Case { text, room: room.min(MAX_SHEET) };
-            let refusal = usize::from(answered(&case).refusal);
-            if of[refusal] * 100 < SHARES[refusal] * count && self.put(case) {
-                of[refusal] += 1;
-            }
-        }
+            let refusal = answered(&case).refusal;
+            return (case, refusal);
+        });
     }
 }

@@ -8,32 +8,16 @@ changes that only say a rule in other words. Exit status 0 if every slip is noti
 """
 
 import sys
-import tempfile
 
 sys.dont_write_bytecode = True
 
 import text_text as t
+from slip_edits import first, other
 from slips import Program
 
 TEXTS = Program("texts", "--edition", "2021", edited=("text_words", "text_expression", "text_lines", "text_answer"))
 
 slip, same = TEXTS.slip, TEXTS.same
-
-
-def other(old, *changes):
-    """The same text with some of it otherwise."""
-    new = old
-    for before, after in changes:
-        if before not in new:
-            sys.exit(f"{before!r} does not stand in {old!r}")
-        new = new.replace(before, after)
-    return old, new
-
-
-def first(old, text):
-    """Something before it."""
-    return old, text + old
-
 
 # 4 at the first line with a number too big
 BIG_LINE = "    if let Some(line) = lines.iter().find(|line| line.too_big) {\n        return Err((OFF_RANGE, line.start));\n    }\n"
@@ -265,17 +249,5 @@ same("19 by what is left", "a sheet fits where no byte of it is left over", othe
 same("first field's place by its line", "the first field stands at 0 alone", other(t.LINE, ("match place", "match made.places[3].min(place) * usize::from(place < made.places[3]) + place * usize::from(place >= made.places[3])")))
 
 
-def main(arguments):
-    only = ""
-    if len(arguments) == 3 and arguments[0] == "--only":
-        only, arguments = arguments[1], arguments[2:]
-    if len(arguments) != 1:
-        sys.exit("usage: text_slips.py [--only WORD] CORPUS")
-    with tempfile.TemporaryDirectory() as folder:
-        told_of, well = TEXTS.try_all(arguments[0], folder, only)
-    print(told_of)
-    sys.exit(not well)
-
-
 if __name__ == "__main__":
-    main(sys.argv[1:])
+    TEXTS.main(sys.argv[1:], "usage: text_slips.py [--only WORD] CORPUS")

@@ -19,8 +19,10 @@
 //! other modules serve other programs too: oracle.rs reads sheets, generator.rs serves for random ones.
 
 mod command_line;
+mod corpus_commands;
 #[allow(dead_code)]
 mod entries;
+mod expression_codes;
 mod fault_pairs;
 #[allow(dead_code)]
 mod field;
@@ -28,6 +30,7 @@ mod field;
 mod generator;
 #[allow(dead_code)]
 mod oracle;
+mod program_try;
 #[allow(dead_code)]
 mod retime_sheets;
 #[allow(dead_code)]
@@ -53,7 +56,8 @@ mod text_try;
 mod text_words;
 mod text_worked;
 
-use command_line::{contents, fail, parsed, write};
+use command_line::{contents, parsed, write};
+use corpus_commands::Commands;
 use std::env;
 use text_answer::{answered, Answered, Case, MAX_SHEET};
 use text_corpus::Typed;
@@ -62,9 +66,13 @@ const NAME: &str = "texts";
 const USAGE: &str = "usage: texts make SEED COUNT [TEXT ..] | plant, expected, histogram, list or corpus FILE | \
                      convert TEXT [ROOM] | try PROGRAM SEED COUNT";
 
-fn read(file: &str) -> Vec<Typed> {
-    entries::read(&contents(file)).unwrap_or_else(|| fail(&format!("{file}: not a corpus of texts")))
-}
+const CORPUS: Commands<Typed> = Commands {
+    of: "texts",
+    planted: text_plant::planted,
+    expected: text_corpus::expected,
+    histogram: text_histogram::histogram,
+    list: text_corpus::list,
+};
 
 fn convert_file(file: &str, room: usize) {
     let Answered { refusal, place, written, sheet } = answered(&Case { text: contents(file), room });
@@ -80,16 +88,9 @@ fn main() {
             let files: Vec<Vec<u8>> = files.iter().map(|file| contents(file)).collect();
             write(&text_corpus::corpus_of(text_cases::all(parsed(seed), parsed(count), &files)));
         }
-        ["plant", file] => {
-            write(&text_plant::planted(&read(file)).unwrap_or_else(|| fail("too few entries to plant among")));
-        }
-        ["expected", file] => write(text_corpus::expected(&read(file)).as_bytes()),
-        ["histogram", file] => text_histogram::histogram(&read(file)),
-        ["list", file] => text_corpus::list(&read(file)),
-        ["corpus", file] => entries::compare(&read(file)),
         ["convert", file] => convert_file(file, MAX_SHEET),
         ["convert", file, room] => convert_file(file, parsed(room)),
         ["try", program, seed, count] => text_try::try_program(program, parsed(seed), parsed(count)),
-        _ => fail(USAGE),
+        words => CORPUS.run(words, USAGE),
     }
 }

@@ -1,6 +1,8 @@
-//! The processor's time of a call.
+//! The processor's time of a call, and the files that are measured.
 
+use std::fs;
 use std::hint::black_box;
+use std::path::Path;
 use std::time::Duration;
 
 #[repr(C)]
@@ -28,4 +30,22 @@ pub fn timed<T>(best: &mut Duration, work: impl FnOnce() -> T) -> T {
     let result = black_box(work());
     *best = (now() - start).min(*best);
     result
+}
+
+/// What the last of so many calls gives; the best time of them all becomes their own, if that was shorter.
+#[allow(dead_code)]
+pub fn repeated<T>(calls: u32, best: &mut Duration, mut call: impl FnMut() -> T) -> T {
+    timed(best, || {
+        for _ in 1..calls {
+            black_box(call());
+        }
+        call()
+    })
+}
+
+/// The name of a file without its folder and ending, and its bytes.
+#[allow(dead_code)]
+pub fn named(file: &str) -> (String, Vec<u8>) {
+    let bytes = fs::read(file).unwrap_or_else(|error| panic!("{file}: {error}"));
+    (Path::new(file).file_stem().unwrap_or_default().to_string_lossy().into_owned(), bytes)
 }

@@ -2,11 +2,12 @@
 """Tries ./zumbeiry check: on every sheet of sheets/, as text and as bytes, and on inputs that are broken on purpose. Then
 building, by try_building.py, ./zumbeiry find, by try_find.py, tools/shelf_file.py, by try_shelf_file.py, ./zumbeiry follow, by
 try_follow.py, ./zumbeiry preview, by try_preview.py and try_written.py, ./zumbeiry take-back, by try_take_back.py and
-try_chains.py, ./zumbeiry mend, by try_mend.py and try_mended.py, and ./zumbeiry convert, by try_convert.py and try_converted.py.
+try_chains.py, ./zumbeiry mend, by try_mend.py and try_mended.py, ./zumbeiry convert, by try_convert.py and try_converted.py,
+./zumbeiry print, by try_print.py, and ./zumbeiry diff, by try_diff.py.
 
     python3 tools/try_command.py
 
-The command first builds its six programs in target/bin/, if need be. The last line is 'N passed, 0 failed'.
+The command first builds its seven programs in target/bin/, if need be. The last line is 'N passed, 0 failed'.
 """
 
 import os
@@ -22,16 +23,19 @@ import follower
 import lookup
 import mend
 import preview
+import printer
 import take_back
 import try_building
 import try_chains
 import try_convert
 import try_converted
+import try_diff
 import try_find
 import try_follow
 import try_mend
 import try_mended
 import try_preview
+import try_print
 import try_shelf_file
 import try_take_back
 import try_written
@@ -39,11 +43,14 @@ import words
 from any_sheet import assemble
 from calls import B, Call, ROOT, cannot, copied, counts, expect, in_folder, text_of
 from convert_cases import HEAD, REFUSED, TOO_LONG
+from print_cases import UNREAD
+
 
 def expected():
     """The five numbers of each sheet that sheets/README.md lists."""
     rows = re.findall(r"^\| `(\S+)` \| [^|]* \| (\d+(?: \d+){4}) \|$", text_of("sheets", "README.md"), re.MULTILINE)
     texts = [name for name in os.listdir(os.path.join(ROOT, "sheets")) if name.endswith((".txt", ".sheet"))]
+    texts += [f"forms/{name}" for name in os.listdir(os.path.join(ROOT, "sheets", "forms"))]
     expect("sheets/README.md lists every sheet once", sorted(name for name, _ in rows) == sorted(texts), rows)
     return dict(sorted(rows))
 
@@ -55,7 +62,7 @@ def try_sheets(folder):
         first = Call("check", path).gives(status, numbers + "\n" + ("accepted: " if status == 0 else "refused, "))
         if name.endswith(".txt") and not name.startswith("mistyped"):
             made = assemble(text_of(path).splitlines())
-            second = Call("check", in_folder(folder, name, made)).gives(status)
+            second = Call("check", in_folder(folder, os.path.basename(name), made)).gives(status)
             said = "".join(line for line in first.out.splitlines(True) if not line.startswith("  line "))
             expect(f"{name}: bytes give what text gives", second.out == said, first.out + second.out)
     several, numbers = [os.path.join("sheets", name) for name in rows], list(rows.values())
@@ -101,23 +108,8 @@ def try_texts():
 
 
 def try_bytes(folder):
-    wrong = (
-        (b"", "1 0 0 0 0", "at byte 0: here the sheet ends"),
-        (B[:2], "1 0 0 0 0", "a header of which 2 of 3 bytes are there"),
-        (B[:27], "1 27 0 0 0", "due there: a statement of thread 0 (tag 6)"),
-        (B[:35], "7 27 0 0 0", "statement 0 of thread 0, skip (tag 6, length 5)"),
-        (B[:42], "1 35 0 0 0", "of which 7 of 8 bytes are there"),
-        (B[19:], "2 0 0 0 0", "the number of locks (tag 3, length 1)"),
-        (B[:1] + b"\xff" + B[2:], "1 0 0 0 0", "of which 43 of 65299 bytes are there"),
-        (B[:2] + b"\x11" + B[3:], "3 0 0 0 0", "limit, budget and label (tag 1, length 17)"),
-        (B[:23] + B[27:], "2 23 0 0 0", "statement 0 of no thread"),
-        (B[:34] + b"\x08" + B[35:], "4 27 0 0 0", "statement 0 of thread 0 (tag 6, length 5)"),
-        (b"\x07\x00\x00", "2 0 0 0 0", "it was taken as bytes"),
-        (b"\x00" * 20_000_000, "9 0 0 0 0", "refused, 9 too long"),
-        (bytes(range(256)) * 60, "2 0 0 0 0", "a field of no known kind (tag 0, length 258)"),
-    )
-    for given, *said in wrong:
-        Call("check", "-", given=given).gives(1, *said)
+    for given, numbers, said in UNREAD:
+        Call("check", "-", given=given).gives(1, f"{numbers} 0 0 0\n", said)
     in_folder(folder, "B's bytes", B)
     Call("check", "B's bytes", folder=folder).gives(0, "0 0 2 2 3\naccepted: ")
     Call("check", "-", given=B).gives(0, "between tick 2 and tick 3, inside the label 2..3; the search took 2 states")
@@ -170,7 +162,7 @@ def try_usage(folder):
 def try_readme():
     text = text_of("README.md")
     rows = re.findall(r"^\| (\d+) (.+) \| (.+) \| (.+) \|$", text, re.MULTILINE)
-    for module in (words, lookup, follower, preview, take_back, mend, convert):
+    for module in (words, lookup, follower, preview, take_back, mend, convert, printer):
         table = [(str(number), *row) for number, row in module.REFUSALS.items()]
         expect(f"README has the table of {module.__name__}", [row for row in rows if row in table] == table, rows)
     sums = re.findall(r"^\| (\d) \| (\d+) \| ([\d,]+) \|$", text, re.MULTILINE)
@@ -181,7 +173,7 @@ def try_readme():
 def main():
     find, follow = ["--check", "10", *try_find.EXAMPLES], ["sheets/B.txt", "sheets/B-at-3.rec"]
     calls = (["check", "sheets/B.txt"], ["find", *find], ["follow", *follow], ["preview", "sheets/B.txt", *try_preview.ASKED])
-    for arguments in (*calls, ["mend", "sheets/garbled.sheet"]):
+    for arguments in (*calls, ["mend", "sheets/garbled.sheet"], ["print", "sheets/B.txt"]):
         subprocess.run([os.path.join(ROOT, "zumbeiry"), *arguments], cwd=ROOT)
     with tempfile.TemporaryDirectory() as folder:
         try_sheets(folder)
@@ -204,6 +196,8 @@ def main():
         try_mended.try_all(folder, copy)
         try_convert.try_all(folder, copy)
         try_converted.try_all(folder, copy)
+        try_print.try_all(folder, copy)
+        try_diff.try_all(folder, copy)
     print(f"{counts[True]} passed, {counts[False]} failed")
     return 1 if counts[False] else 0
 

@@ -8,7 +8,7 @@ import subprocess
 
 import convert
 from any_sheet import assemble
-from calls import B, Call, ROOT, StandIn, as_in_readme, cannot, expect, in_folder, stand_in, text_of
+from calls import B, Call, ROOT, StandIn, as_in_readme, cannot, expect, in_folder, stand_in, text_of, texts_that_read
 from convert_cases import B_TEXT, CONVERTED, REFUSED, TOO_LONG
 
 PROGRAM = os.path.join("target", "bin", convert.PROGRAM)
@@ -107,14 +107,10 @@ def try_program(folder):
 
 def try_examples():
     """What stands in README.md is given, and every text of sheets/ but the mistyped ones makes the bytes that its lines say."""
-    made = os.path.join(ROOT, "target", "typed.sheet")
-    if os.path.exists(made):
-        os.unlink(made)
-    as_in_readme("convert", 3)
-    for name in sorted(os.listdir(os.path.join(ROOT, "sheets"))):
-        if name.endswith(".txt") and not name.startswith("mistyped"):
-            call = Call("convert", os.path.join("sheets", name), "-").gives(0, err=["0 0 "])
-            expect(f"{name}: its bytes", call.bytes == assemble(text_of("sheets", name).splitlines()))
+    as_in_readme("convert", 3, "typed.sheet")
+    for name in texts_that_read():
+        call = Call("convert", os.path.join("sheets", name), "-").gives(0, err=["0 0 "])
+        expect(f"{name}: its bytes", call.bytes == assemble(text_of("sheets", name).splitlines()))
 
 
 # what a program answers to B's text that is no answer; the files are B's sheet, and others of the same length

@@ -4,7 +4,7 @@ try_command.py. Stand-ins take the place of the programs."""
 import os
 
 import convert
-from calls import B, Call, StandIn, cannot, expect, in_folder, stand_in
+from calls import B, Call, StandIn, cannot, expect, in_folder, stand_in, tells_words
 from convert_cases import B_TEXT
 from try_convert import alone, ask, tells
 from try_mended import has
@@ -45,23 +45,32 @@ def try_output(folder, copy):
     text.holds("refused", WRONG)
 
 
-def try_unwritten(folder, copy):
-    """What may not be written is told in one line, and nothing that is there is overwritten."""
-    text = Sheet(folder, "texts not converted", TEXT)
+def unwritten(verb, kind, text, root, usage):
+    """A verb that writes a new file: what may not be written is told in one line, and nothing that is there is overwritten."""
+
+    def into(name, **other):
+        return Call(verb, "sheet", name, folder=text.folder, root=root, **other)
+
+    with open(text.path, "rb") as file:
+        held = file.read()
     in_folder(text.folder, "other", b"kept")
     os.symlink("sheet", os.path.join(text.folder, "near"))
     files = ("sheet", "other", "near")
     for name in ("sheet", "./sheet", "near"):
-        cannot(ask(text.folder, "sheet", name, root=copy), f"zumbeiry: {name}: this is TEXT itself, which is left as it is; ")
+        cannot(into(name), f"zumbeiry: {name}: this is {kind} itself, which is left as it is; ")
     for name in ("other", ".", "/dev/null"):
-        cannot(ask(text.folder, "sheet", name, root=copy), f"zumbeiry: {name}: there is such a file already; name a new one\n")
-    cannot(ask(text.folder, "sheet", "absent/new", root=copy), "zumbeiry: absent/new: not written: No such file or directory\n")
-    cannot(ask(text.folder, "sheet", "", root=copy), "TEXT [SHEET]")
+        cannot(into(name), f"zumbeiry: {name}: there is such a file already; name a new one\n")
+    cannot(into("absent/new"), "zumbeiry: absent/new: not written: No such file or directory\n")
+    cannot(into(""), usage)
     os.chmod(text.folder, 0o555)
-    call = ask(text.folder, "sheet", "new", root=copy, before=as_anyone)
+    call = into("new", before=as_anyone)
     os.chmod(text.folder, 0o755)
     cannot(call, "zumbeiry: new: not written: Permission denied\n")
-    text.holds("nothing is overwritten", TEXT, files)
+    text.holds("nothing is overwritten", held, files)
+
+
+def try_unwritten(folder, copy):
+    unwritten("convert", "TEXT", Sheet(folder, "texts not converted", TEXT), copy, "TEXT [SHEET]")
 
 
 def try_checked(folder, copy):
@@ -119,13 +128,8 @@ def try_verbs(folder, copy):
 
 
 def try_usage(folder):
-    for arguments in (["--help"], ["x", "-h"]):
-        Call("convert", *arguments).gives(0, "usage: ./zumbeiry convert ", "Ends with 0 if the text is converted")
-    Call("--help").gives(0, "\n  convert TEXT [SHEET] ")
-    for arguments in ([], ["a", "b", "c"]):
-        cannot(Call("convert", *arguments), "convert which TEXT, into which new file? TEXT [SHEET]")
-    for option in ("--check", "--text", "--bytes", "-n"):
-        cannot(Call("convert", option, "text"), f"there is no option {option}")
+    asked, options = "convert which TEXT, into which new file? TEXT [SHEET]", ("--check", "--text", "--bytes", "-n")
+    tells_words("convert", "TEXT [SHEET]", "the text is converted", asked, ([], ["a", "b", "c"]), options)
     cannot(Call("convert", "absent"), "zumbeiry: absent: No such file")
     cannot(Call("convert", folder), "Is a directory")
 

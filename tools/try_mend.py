@@ -85,10 +85,7 @@ def try_program(folder):
 
 def try_examples():
     """What stands in README.md and in sheets/README.md is given."""
-    made = os.path.join(ROOT, "target", "mended.sheet")
-    if os.path.exists(made):
-        os.unlink(made)
-    as_in_readme("mend", 2)
+    as_in_readme("mend", 2, "mended.sheet")
     rows = re.findall(r"^\| `(\S+)` \| [^|]* \| (\d+ \d+ \d+ \d+) \| ([\d ]*) \|$", text_of("sheets", "README.md"), re.MULTILINE)
     expect("sheets/README.md has sheets to mend", len(rows) > 3, rows)
     for name, numbers, five in rows:

@@ -8,7 +8,7 @@ from unittest import mock
 import convert
 import given
 import mend
-from calls import B, Call, StandIn, cannot, expect, in_folder, stand_in
+from calls import B, Call, StandIn, cannot, expect, in_folder, stand_in, tells_words
 from mend_cases import GARBLED
 from programs import CannotRun
 from try_mend import BUILT, PROGRAM, alone, ask, says, tells
@@ -181,13 +181,8 @@ def try_built(folder):
 
 
 def try_usage(folder):
-    for arguments in (["--help"], ["x", "-h"]):
-        Call("mend", *arguments).gives(0, "usage: ./zumbeiry mend ", "Ends with 0 if the sheet is mended or copied")
-    Call("--help").gives(0, "\n  mend SHEET [MENDED] ")
-    for arguments in ([], ["a", "b", "c"], ["--check"]):
-        cannot(Call("mend", *arguments), "mend which SHEET, into which new file? SHEET [MENDED]")
-    for option in ("--write", "-n", "--loud"):
-        cannot(Call("mend", option, "sheet"), f"there is no option {option}")
+    asked, others = "mend which SHEET, into which new file? SHEET [MENDED]", ([], ["a", "b", "c"], ["--check"])
+    tells_words("mend", "SHEET [MENDED]", "the sheet is mended or copied", asked, others, ("--write", "-n", "--loud"))
     cannot(Call("mend", "--text", "--bytes", "sheet"), "do not go together")
     cannot(Call("mend", "absent"), "zumbeiry: absent: No such file")
     cannot(Call("mend", folder), "Is a directory")

@@ -11,6 +11,8 @@ VERBS = """usage: ./zumbeiry VERB ..
                          the old times again, instead of the new ones that preview --write gave
   mend SHEET [MENDED]    what did the card writer garble? the mended sheet goes into a new file
   convert TEXT [SHEET]   which sheet does a text tell, or where can it not be read? the sheet goes into a new file
+  print SHEET [FILE]     the sheet's one printed form, a text, or any text brought into that form
+  diff A B               are two sheets equal, or in which lines do their printed forms differ?
 
 ./zumbeiry VERB --help says more."""
 
@@ -153,4 +155,41 @@ register. Spaces stand where one likes between words, and where two words of let
 are no tabs, comments, blank lines or upper case; the last newline may be missing.
 
 Ends with 0 if the text is converted, 1 if it is refused, 2 if a file could not be read or written or there is
+no answer."""
+
+PRINT = """usage: ./zumbeiry print [--numbers] [--text | --bytes] SHEET [FILE]
+
+Prints the one text of a sheet that reads well: equal sheets print alike, and different ones do not. The text says
+the sheet, and convert makes of it the same bytes again. In it words have one space between (none after !, ( or a
+constant's minus, before ) or round ..), numbers no leading zeros, and parentheses stand only where they are needed;
+each line ends with a newline, and none is blank.
+SHEET is bytes or text, as for check; - is standard input. A text is converted first, and so brought into that form;
+one that is not converted is refused as by convert.
+The text goes to standard output, and three numbers (refusal, place, bytes of the text) and the same in words to
+standard error. FILE is a new file, which gets the text instead; none that is there is overwritten, and numbers and
+words then go to standard output. A FILE - is standard output.
+
+  --numbers    the line of three numbers alone, beside the text
+  --text       SHEET is text
+  --bytes      SHEET is bytes
+
+Ends with 0 if the sheet is printed, 1 if it is refused, 2 if a file could not be read or written or there is no
+answer."""
+
+DIFF = """usage: ./zumbeiry diff [--text | --bytes] A B
+
+Compares two sheets by their printed forms (./zumbeiry print --help), line by line: says that they are equal, which
+they are byte for byte where they print alike, or shows the lines of A (-) and of B (+) that differ, each with its
+number in the printed form and what it tells of the sheet. Lines that are moved are shown twice; of a long line a
+part is shown, round the first difference where it stands for another one. Threads, statements and names count from
+0, lines from 1.
+A and B are bytes or text, as for check, also one of each; one of them may be -, standard input. How a text is
+spaced, and parentheses that are not needed, make no difference.
+
+  --text       both are text
+  --bytes      both are bytes
+
+Where one is refused it is told which, with its three numbers (refusal, place, 0) and the same in words, as by print.
+
+Ends with 0 if the sheets are equal, 1 if they differ or one is refused, 2 if a file could not be read or there is
 no answer."""

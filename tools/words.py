@@ -58,8 +58,8 @@ REFUSALS = {
     ),
     19: (
         "output full",
-        "a lent buffer is too short for what goes into it (preview, mend and convert alone give this)",
-        "see what preview, mend and convert say",
+        "a lent buffer is too short for what goes into it (preview, mend, convert and print alone give this)",
+        "see what preview, mend, convert and print say",
     ),
     20: (
         "unreadable",

@@ -1,9 +1,10 @@
 /*
- * The library's eight calls. `rt staticlib label` writes target/staticlib/liblabel.a, with zumbeiry_check, `rt staticlib shelf`
+ * The library's nine calls. `rt staticlib label` writes target/staticlib/liblabel.a, with zumbeiry_check, `rt staticlib shelf`
  * writes target/staticlib/libshelf.a, with zumbeiry_find, `rt staticlib record` target/staticlib/librecord.a, with zumbeiry_follow,
  * `rt staticlib retime` target/staticlib/libretime.a, with zumbeiry_change_times, zumbeiry_take_back and zumbeiry_preview,
- * `rt staticlib mend` target/staticlib/libmend.a, with zumbeiry_mend, and `rt staticlib convert` target/staticlib/libconvert.a, with
- * zumbeiry_convert (x86-64). A program links the archive of the call that it makes.
+ * `rt staticlib mend` target/staticlib/libmend.a, with zumbeiry_mend, `rt staticlib convert` target/staticlib/libconvert.a, with
+ * zumbeiry_convert, and `rt staticlib print` target/staticlib/libprint.a, with zumbeiry_print (x86-64). A program links the archive of
+ * the call that it makes.
  */
 #ifndef ZUMBEIRY_H
 #define ZUMBEIRY_H
@@ -269,6 +270,34 @@ uint32_t zumbeiry_mend(const uint8_t *sheet, size_t sheet_length,
 uint32_t zumbeiry_convert(const uint8_t *text, size_t text_length,
                           uint8_t *sheet, size_t sheet_length,
                           uint64_t *answer, size_t answer_length);
+
+/*
+ * Prints a sheet as text into a lent buffer, in its one form: the text that zumbeiry_convert reads, and zeros behind it. Words have one
+ * space between (none after !, ( or a constant's minus, before ) or round ..), numbers no leading zeros, each line ends with a newline,
+ * none is blank, and parentheses stand only where the expression would otherwise be another.
+ *
+ * Three numbers go to answer[0] to answer[2], in this order:
+ *
+ *     refusal   0: printed; 1 to 9: the sheet does not read, as in zumbeiry_check; else 19: the buffer is too short
+ *     place     of a sheet that does not read as in zumbeiry_check, else 0
+ *     written   the bytes of the text, 0 where it is refused
+ *
+ * Where it is refused, the buffer is all zeros. It is proved that zumbeiry_convert makes of the text that sheet again, byte for byte, so
+ * that two sheets that read print alike exactly when they are equal; and that a text is at most six times as long as its sheet.
+ *
+ * An array of fewer than three numbers is left as it is, and the numbers after the third too; the sheet is printed all the same. The
+ * refusal is returned.
+ *
+ * The buffer may have any length and any contents, and is written to its end in every case; 98,304 bytes hold every printed text. The
+ * sheet may have any length and any bytes, and is only read. Nothing is allocated or kept between calls: threads may call at the same
+ * time, each with its own buffer and answer. A call needs stack: docs/PERFORMANCE.md has the size.
+ *
+ * The caller sees to it that each pointer has that many readable (text and answer: writable) numbers, aligned for their type and not
+ * null even where the length is 0, and that text and answer overlap neither each other nor the sheet.
+ */
+uint32_t zumbeiry_print(const uint8_t *sheet, size_t sheet_length,
+                        uint8_t *text, size_t text_length,
+                        uint64_t *answer, size_t answer_length);
 
 #ifdef __cplusplus
 }

@@ -1,6 +1,6 @@
 -- What the code gives back of a text, in terms of the definition.
 use mathlib.Core.Path.{_≡_}
-use mathlib.Core.List.{List, [], _∷_}
+use mathlib.Core.List.{List, []}
 use Prim.Native.Nat.{ℕ, _≤_}
 use lib.ListN.{length, take, replicate}
 use Rattle.rules.specs.Base.{if_then_else_, atFront}
@@ -9,6 +9,7 @@ use Rattle.text.specs.Words.{took}
 use Rattle.text.specs.Lines.{Text, readText}
 use Rattle.text.specs.Convert.{Conversion, textPieces, pieceAt, judged, convert}
 use Rattle.text.specs.Claims.{WritesSheet, sheetOf}
+use Rattle.writing.specs.Out.{three}
 use Rattle.convert.specs.declared.output.Conversion as D
 
 -- with what the lent buffer holds afterwards
@@ -34,9 +35,6 @@ abbrev pub ConvertsWell : ℕ → Bytes → Type 0
 ConvertsWell room text = convert room text .refusal ≡ 0 → WritesSheet room text
 
 -- ---- what the exported call gives
-
-abbrev pub three : ℕ → ℕ → ℕ → List ℕ
-three r p w = r ∷ p ∷ w ∷ []
 
 -- the refusal, and the three numbers at the front of an array that has room for them
 pub record ThreeIn (x : Conversion) (before after : List ℕ) (r : ℕ) : Type 0 where

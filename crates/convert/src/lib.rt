@@ -11,13 +11,13 @@ pub use output::Conversion;
 use reader::read_sheet;
 use refusal::Refusal;
 use refusal::number_of;
+use writing::put_three;
 ghost use mathlib.Core.Path.{_≡_};
 ghost use Prim.Native.Nat.{_≤_, _<_};
 ghost use lib.ListN.{length};
-ghost use Rattle.rules.specs.Base.{atFront};
 ghost use Rattle.rules.specs.Demands.{Unchanged};
 ghost use Rattle.text.specs.Convert as Rule;
-ghost use Rattle.convert.specs.Shape.{conversionOf, Blames, Judges, ConvertsWell, three, ThreeIn, Leaves};
+ghost use Rattle.convert.specs.Shape.{conversionOf, Blames, Judges, ConvertsWell, ThreeIn, Leaves};
 
 const LONGEST_SHEET: usize = 16384;
 
@@ -82,18 +82,6 @@ pub fn convert_text(text: &[u8], sheet: &mut [u8]) -> Conversion
     convert_through(text, &mut work, sheet)
 }
 
-// The answer's three numbers at the front of an array that has room for them.
-fn put_answer(x: Conversion, answer: &mut [u64])
-    ensures { λ _. ⌜ now (answer .exit) ≡ atFront (three (x .refusal) (x .place) (x .written)) (now (answer .entry)) ⌝ }
-{
-    if answer.len() < 3 {
-        return;
-    }
-    answer[0] = x.refusal as u64;
-    answer[1] = x.place as u64;
-    answer[2] = x.written as u64;
-}
-
 // The same for callers in C and in Rust: the answer's three numbers (refusal, place, bytes written) go to the front of a lent array, and
 // the refusal is returned. An array of fewer than three numbers is left as it is; the text is converted all the same.
 #[no_mangle]
@@ -104,6 +92,6 @@ pub extern "C" fn zumbeiry_convert(text: &[u8], sheet: &mut [u8], answer: &mut [
     ensures { λ _. ⌜ Unchanged (now (text .entry)) (now (text .exit)) ⌝ }
 {
     let x = convert_text(text, sheet);
-    put_answer(x, answer);
+    put_three(answer, x.refusal, x.place, x.written);
     x.refusal
 }

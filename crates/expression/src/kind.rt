@@ -6,7 +6,7 @@ ghost use lib.ListN.{length};
 ghost use Rattle.rules.specs.Format.{arithKind, arithAt, conditionKind, conditionAt};
 ghost use Rattle.expression.specs.Kind.{arithKindOf, conditionKindOf};
 
-pub(crate) enum ArithKind {
+pub enum ArithKind {
     Constant,
     Register,
     Operation(Operator),
@@ -28,7 +28,7 @@ fn arith_kind(code: u8) -> ArithKind
 }
 
 // Unknown, too, where the body has ended.
-pub(crate) fn arith_at(s: &[u8], at: usize, end: usize) -> ArithKind
+pub fn arith_at(s: &[u8], at: usize, end: usize) -> ArithKind
     requires { ⌜ end ≤ length (now s) ⌝ }
     ensures { λ r. ⌜ arithKindOf r ≡ arithAt (now (s .entry)) end at ⌝ }
 {
@@ -39,12 +39,12 @@ pub(crate) fn arith_at(s: &[u8], at: usize, end: usize) -> ArithKind
     }
 }
 
-pub(crate) enum Relation {
+pub enum Relation {
     Equal,
     Less,
 }
 
-pub(crate) enum ConditionKind {
+pub enum ConditionKind {
     Always,
     Never,
     Negation,
@@ -67,7 +67,7 @@ fn condition_kind(code: u8) -> ConditionKind
     }
 }
 
-pub(crate) fn condition_at(s: &[u8], at: usize, end: usize) -> ConditionKind
+pub fn condition_at(s: &[u8], at: usize, end: usize) -> ConditionKind
     requires { ⌜ end ≤ length (now s) ⌝ }
     ensures { λ r. ⌜ conditionKindOf r ≡ conditionAt (now (s .entry)) end at ⌝ }
 {

@@ -20,7 +20,7 @@ use Rattle.rules.proofs.Base.{each-map, each-get}
 use Rattle.rules.proofs.Format.{If, many-if, variables-ordered}
 use Rattle.reader.specs.declared.Index.{Index}
 use Rattle.reader.specs.Index.{layPlaces, noPlaces, refusedIndex, indexOf}
-use Rattle.reader.specs.Facts.{threadIn, statementIn, namesIn, ranges, Ordered, Targets, StatementFacts, ThreadFacts, ProgramFacts, IndexFacts}
+use Rattle.reader.specs.Facts.{programOf, programIn, threadIn, statementIn, namesIn, ranges, Ordered, Targets, StatementFacts, ThreadFacts, ProgramFacts, IndexFacts}
 use Rattle.rules.specs.Fits.{HeaderFits}
 use Rattle.rules.proofs.FieldBytes.{header-fits}
 use Rattle.rules.proofs.IfAt.{IfAt, need-at, then-at, sized-at, due-at, any-at, both-at, with-reading, when-got, many-at, many-few}
@@ -48,7 +48,7 @@ done-head true c d e = refl
 done-head false c d e = let z : _≡_ {A = ℕ} 0 1 = cc in absurd (omega arith)
 
 -- behind the variables stands the first thread's header
-thread-head : (s : Bytes) (p : ℕ) → variableHere s p ≡ done → p + 3 ≤ length s
+pub thread-head : (s : Bytes) (p : ℕ) → variableHere s p ≡ done → p + 3 ≤ length s
 unfolding variableHere hasHead
 thread-head s p e = leb-true (p + 3) (length s) (done-head (hasHead s p) (eqb (byte s p) 2) (eqb (byte s p) 4) e)
 
@@ -116,6 +116,10 @@ sheet-facts s =
 
 pub program-facts : (s : Bytes) (g : Program) (e : ℕ) → readSheet s ≡ got g e → ProgramFacts s g
 program-facts s g e q = when-got (λ g q. ProgramFacts s g) (readSheet s) (sheet-facts s) g e q
+
+pub program-is : (s : Bytes) (g : Program) (e : ℕ) → readSheet s ≡ got g e → programIn s ≡ g
+unfolding programIn
+program-is s g e q = ap programOf q
 
 module _ {s : Bytes} {g : Program} (f : ProgramFacts s g) (t : ℕ) (r : t < length (g .threads)) where
   pub thread-in : ThreadFacts (length (g .vars)) (g .locks) s (threadIn g t)

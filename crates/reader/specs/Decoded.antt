@@ -1,4 +1,5 @@
 -- A statement as the code decodes it at a place: from the bytes, and from the statement of the program.
+use mathlib.Core.Bool.{Bool, true, false}
 use Prim.Native.Nat.{ℕ, _+_}
 use lib.Dec.{eqb}
 use Rattle.rules.specs.Base.{if_then_else_}
@@ -47,3 +48,15 @@ actionOf at end (R.lock l) = Lock l
 
 abbrev pub statementOf : Bytes → R.Statement → Statement
 statementOf s x = record { least = tick (x .least); greatest = tick (x .greatest); action = actionOf (x .place + 9) (bodyEnd s (x .place)) (x .action) }
+
+-- ---- which action halts
+
+abbrev pub halts : Action → Bool
+halts Halt = true
+halts Skip = false
+halts (Assign r at e) = false
+halts (Branch t at e) = false
+halts (Store r v) = false
+halts (Load r v) = false
+halts (Unlock l) = false
+halts (Lock l) = false

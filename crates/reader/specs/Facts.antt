@@ -9,11 +9,21 @@ use Rattle.rules.specs.Base.{Each}
 use Rattle.rules.specs.Constants.{longestSheet, deepest, mostLocks, mostVariables, mostRegisters, mostThreads, mostStatements}
 use Rattle.rules.specs.Interval.{Interval, interval}
 use Rattle.rules.specs.Program.{Action, halt, skip, assign, branch, store, load, unlock, lock, isHalt, Statement, Thread, Program, noStatement, noThread}
-use Rattle.rules.specs.Format.{Bytes, int32, got, Names, readArith, readCondition, readStatement}
+use Rattle.rules.specs.Format.{Bytes, int32, Got, bad, got, Names, readArith, readCondition, readStatement, readSheet}
 use Rattle.rules.specs.Fits.{HeaderFits}
 use Rattle.reader.specs.declared.Index.{Index}
 use Rattle.reader.specs.Index.{noEntry, entryOf}
 use Rattle.reader.specs.Decoded.{bodyEnd, statementAt, statementOf}
+
+-- ---- the program that a sheet reads as
+
+-- of a sheet that does not read, a program with no threads
+abbrev pub programOf : Got Program → Program
+programOf (bad r p) = record { header = record { limit = 0; budget = 0; labelLow = 0; labelHigh = 0 }; locks = 0; vars = []; threads = [] }
+programOf (got g e) = g
+
+unfoldable pub programIn : Bytes → Program
+programIn s = programOf (readSheet s)
 
 -- ---- parts of a program by number
 

@@ -7,7 +7,7 @@ ghost use mathlib.Core.Path.{_≡_};
 ghost use Prim.Native.Nat.{_+_, _≤_, _<_};
 ghost use lib.ListN.{length};
 ghost use Rattle.rules.specs.Format.{num16};
-ghost use Rattle.reader.specs.Decoded.{actionAt, statementAt};
+ghost use Rattle.reader.specs.Decoded.{actionAt, statementAt, halts};
 
 // What a statement does. An expression stands from `at` up to `end`.
 pub enum Action {
@@ -96,5 +96,14 @@ pub fn statement_at(s: &[u8], at: usize) -> Statement
         least,
         greatest,
         action,
+    }
+}
+
+pub fn is_halt(action: Action) -> bool
+    ensures { λ r. ⌜ r ≡ halts action ⌝ }
+{
+    match action {
+        Action::Halt => true,
+        _ => false,
     }
 }

@@ -14,6 +14,12 @@ ghost use lib.ListN.{length};
 ghost use Rattle.rules.specs.Format.{due, readRange, variableHere, readVariables, readRegisters};
 ghost use Rattle.reader.specs.Outcome.{endOf, nextOf, countOf};
 
+// Behind the header and the locks stands the first variable.
+pub const VARIABLES_AT: usize = 23;
+
+// The bytes of a range with its tag and its length.
+pub const RANGE_SIZE: usize = 11;
+
 const MOST_VARIABLES: usize = 8;
 
 fn range_end(s: &[u8], at: usize) -> End

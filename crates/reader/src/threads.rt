@@ -19,6 +19,9 @@ ghost use Rattle.reader.specs.Index.{greatestPlace, ThreadRead, ThreadsR
 
 pub const MOST_THREADS: usize = 4;
 
+// The bytes of a thread's field of tag 4; its registers stand behind them.
+pub const OPENING_SIZE: usize = 4;
+
 // Where a thread's field of tag 4 stands, and how many registers and statements it has.
 pub struct ThreadEntry {
     pub place: u16,

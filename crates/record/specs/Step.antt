@@ -11,7 +11,8 @@ use Rattle.expression.specs.declared.parts.Check.{Check}
 use Rattle.expression.specs.declared.parts.Check.the-variants.{Passed, Fault}
 use Rattle.state.specs.Shape.{sizesOf}
 use Rattle.search.specs.declared.plan.Plan.{Plan}
-use Rattle.search.specs.Plan.{programIn, Ready}
+use Rattle.reader.specs.Facts.{programIn}
+use Rattle.search.specs.Plan.{Ready}
 use Rattle.record.specs.Follow as F
 use Rattle.record.specs.Replay.{unlessFault, replayOf}
 use Rattle.record.specs.declared.replay.Replay.{Replay}

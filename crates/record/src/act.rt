@@ -27,7 +27,7 @@ ghost use Rattle.rules.specs.Program.{isHalt, Statement};
 ghost use Rattle.rules.specs.Refusal.{value};
 ghost use Rattle.rules.specs.Format.{got, readArith, readCondition};
 ghost use Rattle.state.specs.Shape.{Sizes, sizesOf};
-ghost use Rattle.search.specs.Plan.{programIn};
+ghost use Rattle.reader.specs.Facts.{programIn};
 ghost use Rattle.search.specs.Fetch.{namesOf, Fetches, OfProgram};
 ghost use Rattle.record.specs.Replay.{threadAt, replayedOf, stood};
 ghost use Rattle.record.specs.Act.{Acts, Sized, Stands};

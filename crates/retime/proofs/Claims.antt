@@ -1,18 +1,16 @@
 -- The claims of `specs/Claims`.
 use mathlib.Core.Path.{_≡_, refl, sym, ap, subst, _∙_}
 use mathlib.Core.Bool.{Bool, true, false}
-use Prim.Native.Nat.{ℕ, _≤_}
-use native.Mathlib.Decide.{ℕ-discrete}
-use native.Mathlib.Omega.{arith}
-use lib.Dec.{leb, leb→le}
+use Prim.Native.Nat.{ℕ}
+use lib.Dec.{leb}
 use lib.ListN.{length}
-use Rattle.rules.specs.Refusal.{Refusal, number, offRange, noSuchName, outputFull}
+use Rattle.rules.specs.Refusal.{Refusal, offRange, noSuchName, outputFull}
 use Rattle.rules.specs.Program.{Program}
 use Rattle.rules.specs.Format.{Bytes, AreBytes, Got, bad, got, need, andThen, readSheet}
 use Rattle.rules.specs.Search.{Answer, answer}
 use Rattle.rules.specs.Demands.{WindowInside, HoldsOfSheet}
 use Rattle.rules.proofs.Refusal.{positive}
-use Rattle.rules.proofs.Numbers.{sheet-refusals}
+use Rattle.rules.proofs.Numbers.{of-reader}
 use Rattle.rules.proofs.Demands.{accepted-inside, accepted-holds}
 use Rattle.retime.specs.Retime.{Done, Changed, changeTimes, change, retime, checked, previewAnswer}
 use Rattle.retime.specs.Claims.{ReadsRetimed, HoldsRetimed, Refused, Unread, RetimeClaims}
@@ -67,12 +65,6 @@ module _ (s : Bytes) (m n t k l h : ℕ) where
       }
 
 -- ---- the claims
-
-pub of-reader : (s : Bytes) (r : Refusal) (p : ℕ) → readSheet s ≡ bad r p → (1 ≤ number r) × (number r ≤ 9)
-of-reader s r p e = (some, leb→le (number r) 9 (sheet-refusals s r p e))
-  where
-    some : 1 ≤ number r
-    some = elim (ℕ-discrete (number r) 0) [ yes z ↦ absurd (positive r z) | no z ↦ omega arith ]
 
 refused-as : (s : Bytes) (t k l h : ℕ) (r : Refusal) (g : Program) (e : ℕ) → readSheet s ≡ got g e → changeTimes s t k l h ≡ bad r 0 → Refused s t k l h r
 unfolding checked

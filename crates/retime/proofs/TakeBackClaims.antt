@@ -4,12 +4,12 @@ use Prim.Native.Nat.{ℕ}
 use lib.Dec.{T}
 use Rattle.rules.specs.Program.{Program}
 use Rattle.rules.specs.Format.{Bytes, got, readSheet}
+use Rattle.rules.proofs.Numbers.{of-reader}
 use Rattle.reader.specs.Facts.{statementIn}
 use Rattle.retime.specs.Retime.{isStatement, mayHave, Change, Changed}
 use Rattle.retime.specs.TakeBack.{shows}
 use Rattle.retime.specs.TakeBackClaims.{restored, Taken, TakeBackClaims}
 use Rattle.retime.proofs.Changing.{sheet-unread, statement-absent, times-made, change-made}
-use Rattle.retime.proofs.Claims.{of-reader}
 use Rattle.retime.proofs.TakeBack.{back-off, back-since, back-made, taken-refused, taken-made, comes-back, all-come-back}
 use Rattle.retime.proofs.TakeBackWorked.{back-rows-hold}
 

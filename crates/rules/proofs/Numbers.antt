@@ -3,8 +3,10 @@
 use mathlib.Core.Path.{_≡_, subst}
 use mathlib.Core.Bool.{Bool, true, false, not}
 use mathlib.Core.List.{List, [], _∷_, _++_}
-use Prim.Native.Nat.{ℕ, zero, suc, _+_}
-use lib.Dec.{T, leb, eqb}
+use Prim.Native.Nat.{ℕ, zero, suc, _+_, _≤_}
+use native.Mathlib.Decide.{ℕ-discrete}
+use native.Mathlib.Omega.{arith}
+use lib.Dec.{T, leb, eqb, leb→le}
 use lib.ListN.{length}
 use Rattle.rules.specs.Base.{if_then_else_}
 use Rattle.rules.specs.Refusal.{Refusal, number, short, outOfTurn, badLength, offRange, noSuchName, badExpression, noHalt, tooMany, tooLong}
@@ -15,6 +17,7 @@ use Rattle.rules.specs.Format.{Bytes, Got, bad, got, andThen, need, mapG
 use Rattle.rules.specs.Format.{ArithKind, aConstant, aRegister, unknown, anOperator, arithAt, readConstant, readRegister, onArith, readArith, ConditionKind, leaf, aNegation, aConjunction, unknownCondition, comparison, conditionAt, onCondition, readCondition}
 use Rattle.rules.specs.Format.{exactly, Names, readAction, readContents, readStatement, statementHere, readStatements, lastHalts, targetFits, targetsFit, close, readThread, threadHere, readThreads, readHeader, readLocks, readSheet}
 use Rattle.rules.proofs.Base.{if-ind}
+use Rattle.rules.proofs.Refusal.{positive}
 
 -- ---- a property of the refusal, carried through the readers' connectives
 
@@ -234,3 +237,9 @@ module _ (s : Bytes) where
 
 pub sheet-refusals : (s : Bytes) (r : Refusal) (p : ℕ) → readSheet s ≡ bad r p → T (leb (number r) 9)
 sheet-refusals s r p e = subst Nine e (nine-sheet s)
+
+pub of-reader : (s : Bytes) (r : Refusal) (p : ℕ) → readSheet s ≡ bad r p → (1 ≤ number r) × (number r ≤ 9)
+of-reader s r p e = (some, leb→le (number r) 9 (sheet-refusals s r p e))
+  where
+    some : 1 ≤ number r
+    some = elim (ℕ-discrete (number r) 0) [ yes z ↦ absurd (positive r z) | no z ↦ omega arith ]

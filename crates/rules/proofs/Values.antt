@@ -14,11 +14,11 @@ use Rattle.rules.specs.Fits.{Value, RangeFits}
 use Rattle.rules.proofs.Base.{if-ind, and-left, and-both}
 use Rattle.rules.proofs.Stands.{Stands, four-is, stands-four, num32-small}
 
-value-pos : (n : ℕ) → Value (pos n) → n < 2147483648
+pub value-pos : (n : ℕ) → Value (pos n) → n < 2147483648
 unfolding inRange
 value-pos n v = ltb→lt n 2147483648 v
 
-value-neg : (n : ℕ) → Value (negsuc n) → n < 2147483648
+pub value-neg : (n : ℕ) → Value (negsuc n) → n < 2147483648
 unfolding inRange
 value-neg n v = let h = leb→le n 2147483647 (and-left (leb n 2147483647) true v) in omega arith
 

@@ -11,17 +11,14 @@ use Rattle.rules.specs.Search as S
 use Rattle.rules.specs.Search.{End, fails, unseen, search, start, searchFrom}
 use Rattle.reader.specs.declared.Index.{Index}
 use Rattle.reader.specs.Index.{indexOf}
-use Rattle.reader.proofs.Facts.{accepted, rejected, program-facts, index-facts}
+use Rattle.reader.proofs.Facts.{accepted, rejected, program-facts, program-is, index-facts}
+use Rattle.reader.specs.Facts.{programIn}
 use Rattle.state.specs.declared.State.{State}
 use Rattle.state.specs.Shape.{sizesOf, stateOf}
-use Rattle.search.specs.Plan.{programOf, programIn, Planned, Ready}
+use Rattle.search.specs.Plan.{Planned, Ready}
 use Rattle.search.specs.Whole.{unread, ended, endWith, searchOf}
 
 -- ---- a sheet that reads, and its index
-
-pub program-is : (s : Bytes) (g : Program) (e : ℕ) → readSheet s ≡ got g e → programIn s ≡ g
-unfolding programIn
-program-is s g e q = ap programOf q
 
 module _ (s : Bytes) (i : Index) (h : i ≡ indexOf (readSheet s)) (fine : i .refusal ≡ 0) where
   pub ready : Ready s (record { threads = i .threads; limit = i .limit; entries = i .entries }) (i .places)

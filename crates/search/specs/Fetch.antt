@@ -1,6 +1,6 @@
 -- What the code fetches of a statement.
 use mathlib.Core.Path.{_≡_}
-use mathlib.Core.Bool.{Bool, true, false}
+use mathlib.Core.Bool.{false}
 use Prim.Native.Nat.{ℕ, _+_, _≤_, _<_}
 use lib.ListN.{length}
 use Rattle.rules.specs.Constants.{mostThreads, mostStatements, mostRegisters, mostVariables, mostLocks}
@@ -8,19 +8,7 @@ use Rattle.rules.specs.Program.{isHalt, Statement, Program}
 use Rattle.rules.specs.Format.{Bytes, Names}
 use Rattle.reader.specs.Decoded.{bodyEnd, actionOf}
 use Rattle.reader.specs.Facts.{threadIn, namesIn, Named, Targets, Expresses}
-use Rattle.reader.specs.declared.decoding.Action.{Action}
-use Rattle.reader.specs.declared.decoding.Action.the-variants.{Halt, Skip, Assign, Branch, Store, Load, Unlock, Lock}
 use Rattle.search.specs.declared.fetch.Fetched.{Fetched}
-
-abbrev pub halts : Action → Bool
-halts Halt = true
-halts Skip = false
-halts (Assign r at e) = false
-halts (Branch t at e) = false
-halts (Store r v) = false
-halts (Load r v) = false
-halts (Unlock l) = false
-halts (Lock l) = false
 
 -- the names of thread t
 abbrev pub namesOf : Program → ℕ → Names

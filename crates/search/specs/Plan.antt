@@ -1,22 +1,14 @@
--- The program that a sheet reads as, and a plan of it.
+-- A plan of the program that a sheet reads as.
 use mathlib.Core.Path.{_≡_}
-use mathlib.Core.List.{List, []}
+use mathlib.Core.List.{List}
 use Prim.Native.Nat.{ℕ, _+_, _*_, _<_}
 use lib.ListN.{length, getD}
 use Rattle.rules.specs.Constants.{mostStatements}
 use Rattle.rules.specs.Program.{Program}
-use Rattle.rules.specs.Format.{Bytes, Got, bad, got, readSheet}
+use Rattle.rules.specs.Format.{Bytes}
 use Rattle.reader.specs.Index.{noEntry, entryOf}
-use Rattle.reader.specs.Facts.{threadIn, statementIn, ProgramFacts}
+use Rattle.reader.specs.Facts.{programIn, threadIn, statementIn, ProgramFacts}
 use Rattle.search.specs.declared.plan.Plan.{Plan}
-
--- of a sheet that does not read, a program with no threads
-abbrev pub programOf : Got Program → Program
-programOf (bad r p) = record { header = record { limit = 0; budget = 0; labelLow = 0; labelHigh = 0 }; locks = 0; vars = []; threads = [] }
-programOf (got g e) = g
-
-unfoldable pub programIn : Bytes → Program
-programIn s = programOf (readSheet s)
 
 -- the plan and the table of places are those of the program g, which the sheet reads as
 pub record Planned (s : Bytes) (g : Program) (p : Plan) (places : List ℕ) : Type 0 where

@@ -15,11 +15,11 @@ use Rattle.reader.specs.declared.decoding.Action.the-variants.{Halt, Skip, Assi
 use Rattle.reader.specs.declared.ticks.Time.{Time}
 use Rattle.reader.specs.Ticks.{tick}
 use Rattle.reader.specs.Facts.{statementIn}
+use Rattle.reader.specs.Decoded.{halts}
 use Rattle.state.specs.declared.Clock.{Clock}
 use Rattle.state.specs.declared.State.{State}
 use Rattle.state.specs.Access.{threadAt}
 use Rattle.state.specs.Shape.{ownerOf}
-use Rattle.search.specs.Fetch.{halts}
 use Rattle.search.specs.declared.fetch.Fetched.{Fetched}
 use Rattle.search.specs.declared.survey.Survey.{Survey}
 

@@ -36,7 +36,7 @@ ghost use Rattle.search.specs.declared.act.Acted.the-variants as Acted;
 ghost use Rattle.state.specs.Shape.{Sizes, threadOf, sizesOf, stateOf};
 ghost use Rattle.state.specs.Access.{threadAt};
 ghost use Rattle.state.specs.Cells.{decode};
-ghost use Rattle.search.specs.Plan.{programIn};
+ghost use Rattle.reader.specs.Facts.{programIn};
 ghost use Rattle.search.specs.Fetch.{namesOf, Fetches, OfProgram};
 ghost use Rattle.search.specs.Push.{Pushed};
 ghost use Rattle.search.specs.Act.{Asks, Acts, movedBy};

@@ -11,9 +11,9 @@ ghost use lib.ListN.{length};
 ghost use Rattle.rules.specs.Constants.{mostStatements};
 ghost use Rattle.rules.specs.Program.{Statement, noStatement};
 ghost use Rattle.rules.specs.Format.{Bytes, Names};
-ghost use Rattle.reader.specs.Facts.{statementIn, StatementFacts, Targets};
-ghost use Rattle.search.specs.Plan.{programIn, Ready};
-ghost use Rattle.search.specs.Fetch.{halts, namesOf, Fetches};
+ghost use Rattle.reader.specs.Facts.{programIn, statementIn, StatementFacts, Targets};
+ghost use Rattle.search.specs.Plan.{Ready};
+ghost use Rattle.search.specs.Fetch.{namesOf, Fetches};
 
 pub struct Fetched {
     pub place: usize,
@@ -66,15 +66,6 @@ pub fn fetch(sheet: &[u8], places: &[u16; MOST_PLACES], plan: Plan, t: usize, at
     let i = t * MOST_STATEMENTS + k;
     let place = places[i] as usize;
     fetch_at(sheet, place)
-}
-
-pub fn is_halt(action: Action) -> bool
-    ensures { λ r. ⌜ r ≡ halts action ⌝ }
-{
-    match action {
-        Action::Halt => true,
-        _ => false,
-    }
 }
 
 // The number of the next statement.

@@ -17,7 +17,8 @@ ghost use Rattle.rules.specs.Search as S;
 ghost use Rattle.rules.specs.Search.{unseen};
 ghost use Rattle.state.specs.Shape.{sizesOf, stateOf};
 ghost use Rattle.state.specs.Cells.{AllTimed};
-ghost use Rattle.search.specs.Plan.{programIn, Ready};
+ghost use Rattle.reader.specs.Facts.{programIn};
+ghost use Rattle.search.specs.Plan.{Ready};
 ghost use Rattle.search.specs.Push.{Room};
 ghost use Rattle.search.specs.Run.{windowOf, endOf};
 

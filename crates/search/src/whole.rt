@@ -17,7 +17,7 @@ ghost use Rattle.rules.specs.Format.{readSheet};
 ghost use Rattle.rules.specs.Search.{searchFrom};
 ghost use Rattle.rules.specs.Demands.{AllZeros, Unchanged};
 ghost use Rattle.reader.specs.Index.{indexOf};
-ghost use Rattle.search.specs.Plan.{programIn};
+ghost use Rattle.reader.specs.Facts.{programIn};
 ghost use Rattle.search.specs.Push.{Room};
 ghost use Rattle.search.specs.Run.{endOf};
 ghost use Rattle.search.specs.Whole.{endWith, searchOf, searchedOf};

@@ -27,7 +27,7 @@ use Rattle.state.specs.declared.Thread.{Thread}
 use Rattle.state.specs.Access.{zeroThread}
 use Rattle.state.specs.Shape.{threadOf, threadsOf, ownersOf, sizesOf, stateOf}
 use Rattle.state.specs.Start.{EntryFits, startsWith, ThreadStarts}
-use Rattle.state.proofs.Room.{RegsInside, ranges-inside}
+use Rattle.reader.proofs.Room.{RegsInside, ranges-inside}
 
 -- ---- one more range
 

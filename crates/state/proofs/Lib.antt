@@ -7,5 +7,4 @@ pub mod Stack
 pub mod Slot
 pub mod Written
 pub mod Ownership
-pub mod Room
 pub mod Initial

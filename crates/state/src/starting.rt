@@ -8,7 +8,10 @@ use interval::Span;
 use interval::Val;
 use reader::Index;
 use reader::MOST_THREADS;
+use reader::OPENING_SIZE;
+use reader::RANGE_SIZE;
 use reader::Time;
+use reader::VARIABLES_AT;
 use reader::threads::ThreadEntry;
 ghost use mathlib.Core.Path.{_≡_};
 ghost use Prim.Native.Nat.{ℕ, _<_, _≤_, _+_, _*_};
@@ -21,12 +24,6 @@ ghost use Rattle.reader.specs.Index.{noEntry, indexOf};
 ghost use Rattle.reader.specs.Facts.{rangeAt, ranges};
 ghost use Rattle.state.specs.Cells.{Timed};
 ghost use Rattle.state.specs.Start.{EntryFits, ThreadStarts, StartsAs};
-
-// Behind the header and the locks stands the first variable.
-const VARIABLES_AT: usize = 23;
-
-// The bytes of a range with its tag and its length.
-const RANGE_SIZE: usize = 11;
 
 // The span of the field of tag 2 or 5 at p.
 fn range_at(s: &[u8], p: usize) -> Span
@@ -71,7 +68,7 @@ fn start_thread(s: &[u8], entry: ThreadEntry) -> Thread
 {
     let place = wide(entry.place);
     let n = wide(entry.registers);
-    let regs = ranges_at(s, place + 4, n);
+    let regs = ranges_at(s, place + OPENING_SIZE, n);
     Thread {
         at: 0,
         clock: Clock {

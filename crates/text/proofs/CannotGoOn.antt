@@ -18,7 +18,7 @@ use Rattle.text.proofs.Orderly.{AtEnd, Extends}
 use Rattle.text.proofs.OrderlyText.{text-within, text-extends}
 
 -- a stop is no value
-stopped : {X A : Type 0} (r q : Bytes) (a : A) → _≡_ {A = Read A} (stop r) (took a q) → X
+pub stopped : {X A : Type 0} (r q : Bytes) (a : A) → _≡_ {A = Read A} (stop r) (took a q) → X
 stopped r q a h = let z : _≡_ {A = ℕ} 0 1 = cc in absurd (omega arith)
 
 -- t stops at what begins with its last byte or before it

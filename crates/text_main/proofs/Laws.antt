@@ -1,43 +1,21 @@
--- What the program gives: its line, which fits its buffer; its sheet, which lies in what is lent; and that what is lent is enough.
+-- What the program gives: its line; its sheet, which lies in what is lent; and that what is lent is enough.
 use mathlib.Core.Path.{_≡_, refl, sym, ap, subst, _∙_}
-use mathlib.Core.List.{List, [], _∷_, _++_}
-use Prim.Native.Nat.{ℕ, _-_, _^_, _≤_, _<_}
+use Prim.Native.Nat.{ℕ, _-_, _≤_}
 use native.Mathlib.Decide.{decLt}
 use native.Mathlib.Omega.{arith}
-use borrow.Author.Tests.{ne-eqb}
 use lib.ListN.{length, take, replicate, length-append}
-use Rattle.rules.specs.Base.{nil, _&_}
 use Rattle.rules.specs.Constants.{longestSheet}
 use Rattle.rules.specs.Refusal.{Refusal, tooLong, unreadable}
 use Rattle.rules.specs.Program.{Program}
 use Rattle.rules.specs.Format.{Bytes, Got, bad, got, readSheet}
-use Rattle.rules.specs.Product.{decimal}
-use Rattle.writing.specs.Out.{write, Writes, lineOf}
-use Rattle.writing.proofs.Written.{writes-length}
-use Rattle.writing.proofs.Line.{number-then, last-number, line-ends}
+use Rattle.writing.specs.Out.{Writes, refusalLine}
 use Rattle.text.specs.Words.{Read, stop, took}
 use Rattle.text.specs.Lines.{Text, readText}
 use Rattle.text.specs.Convert.{textPieces, pieceAt, said as said-of, Conversion, refusedWith, convertedWith, convert}
 use Rattle.text.specs.Claims.{ConvertClaims, sheetOf, fullLength}
 use Rattle.text.proofs.Claims.{convert-claims}
 use Rattle.convert.proofs.Verdicts.{sheet-smaller}
-use Rattle.text_main.specs.Told.{answered, written, line, said, numbersOf, EnoughLent}
-
--- ---- the line
-
-pub no-line : (r p : ℕ) (l : Bytes) → r ≡ 0 → Writes (line r p) l 0 l 0
-unfolding line write
-no-line r p l e = rw e
-
-pub one-line : (r p : ℕ) (l₀ l₁ l₂ : Bytes) (p₁ p₂ : ℕ) → (r ≡ 0 → ⊥) → Writes (decimal r ++ 32 ∷ []) l₀ 0 l₁ p₁ → Writes (decimal p ++ 10 ∷ []) l₁ p₁ l₂ p₂ → Writes (line r p) l₀ 0 l₂ p₂
-unfolding line
-one-line r p l₀ l₁ l₂ p₁ p₂ n a b = rw (ne-eqb r 0 n) (number-then r p [] l₀ l₁ l₂ 0 p₁ p₂ a (last-number p l₁ l₂ p₁ p₂ b))
-
-pub one-ends : (r p : ℕ) → r < 2 ^ 64 → p < 2 ^ 64 → (l m : Bytes) (e : ℕ) → (r ≡ 0 → ⊥) → Writes (line r p) l 0 m e → 42 ≤ length l → e ≤ 42
-unfolding line
-one-ends r p a b l m e n w h =
-    let v : Writes (lineOf (r ∷ p ∷ [])) l 0 m e = rw (ne-eqb r 0 n) at w in
-    let x = line-ends 19 (r ∷ p ∷ []) ((omega arith) & (omega arith) & nil) l m 0 e v (omega arith) in omega arith
+use Rattle.text_main.specs.Told.{answered, written, said, numbersOf, EnoughLent}
 
 -- ---- what is told of a text
 
@@ -46,12 +24,9 @@ module _ (s : Bytes) (a : Conversion) (e : a ≡ answered s) where
   unfolding written
   told-sheet = ap (λ (x : Conversion). take (x .written) (x .sheet)) e
 
-  pub told-line : (l m : Bytes) (p : ℕ) → Writes (line (a .refusal) (a .place)) l 0 m p → Writes (said s) l 0 m p
+  pub told-line : (l m : Bytes) (p : ℕ) → Writes (refusalLine (a .refusal) (a .place)) l 0 m p → Writes (said s) l 0 m p
   unfolding said
-  told-line l m p w = subst (λ (x : Conversion). Writes (line (x .refusal) (x .place)) l 0 m p) e w
-
-pub said-inside : (l m t : Bytes) (p : ℕ) → Writes t l 0 m p → 42 ≤ length l → (42 ≤ length l → p ≤ 42) → p ≤ length m
-said-inside l m t p w h f = let e = writes-length t l m 0 p w in let k = f h in omega arith
+  told-line l m p w = subst (λ (x : Conversion). Writes (refusalLine (x .refusal) (x .place)) l 0 m p) e w
 
 -- with the buffer that is lent
 pub lent-answer : (s : Bytes) (n : ℕ) {a : Conversion} → a ≡ convert n s → n ≡ longestSheet → a ≡ answered s

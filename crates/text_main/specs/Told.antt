@@ -2,12 +2,10 @@
 use mathlib.Core.Path.{_≡_}
 use mathlib.Core.List.{List, [], _∷_}
 use Prim.Native.Nat.{ℕ, _≤_}
-use lib.Dec.{eqb}
 use lib.ListN.{take}
-use Rattle.rules.specs.Base.{if_then_else_}
 use Rattle.rules.specs.Constants.{longestSheet}
 use Rattle.rules.specs.Format.{Bytes}
-use Rattle.writing.specs.Out.{lineOf}
+use Rattle.writing.specs.Out.{refusalLine}
 use Rattle.text.specs.Convert.{Conversion, convert}
 
 -- it lends room for the longest sheet
@@ -19,11 +17,8 @@ unfoldable pub written : Bytes → Bytes
 written s = take (answered s .written) (answered s .sheet)
 
 -- to standard error: the line "refusal place", nothing where it is converted
-unfoldable pub line : ℕ → ℕ → Bytes
-line r p = if eqb r 0 then [] else lineOf (r ∷ p ∷ [])
-
 unfoldable pub said : Bytes → Bytes
-said s = line (answered s .refusal) (answered s .place)
+said s = refusalLine (answered s .refusal) (answered s .place)
 
 -- ---- the claim: what is lent is enough, with more room the numbers are the same
 

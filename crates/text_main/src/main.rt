@@ -1,15 +1,15 @@
 // Reads a text from standard input. The sheet that it makes goes to standard output; where it is refused, nothing goes there, and the
 // line `refusal place` goes to standard error. What goes to both, of the bytes that were read, is proved to be what the rule gives.
-use convert::Conversion;
 use convert::convert_text;
 use libc::STDERR_FILENO;
 use libc::STDOUT_FILENO;
-use writing::put_number;
+use writing::LONGEST_REFUSAL;
+use writing::put_refusal;
 ghost use mathlib.Core.Path.{_≡_};
 ghost use Prim.Native.Nat.{_≤_};
 ghost use lib.ListN.{length, take};
 ghost use Rattle.rules.specs.Constants.{longestSheet};
-ghost use Rattle.writing.specs.Out.{Writes};
+ghost use Rattle.writing.specs.Out.{Writes, longestRefusal};
 ghost use Rattle.text_main.specs.Told as Told;
 
 // What a text may have here, and one byte more, so that a longer one is seen to be longer.
@@ -20,37 +20,22 @@ const READ_TEXT: usize = 1048577;
 // What is lent: the longest sheet.
 const LENT_BYTES: usize = 16384;
 
-// Two numbers of at most twenty digits, and one byte behind each.
-const LONGEST_LINE: usize = 42;
-
 // How many bytes go to standard output, and to standard error.
 struct Ends {
     written: usize,
     said: usize,
 }
 
-// Nothing where it is converted.
-fn put_line(out: &mut [u8], x: Conversion) -> usize
-    ensures { λ r. ⌜ Writes (Told.line (x .refusal) (x .place)) (now (out .entry)) 0 (now (out .exit)) r ⌝ }
-    ensures { λ r. ⌜ (42 ≤ length (now (out .entry)) → r ≤ 42) ⌝ }
-{
-    if x.refusal == 0 {
-        return 0;
-    }
-    let second = put_number(out, 0, x.refusal as usize, b' ');
-    put_number(out, second, x.place, b'\n')
-}
-
 // What goes to standard output stands at the front of the first buffer, what goes to standard error at the front of the second.
 fn answer(text: &[u8], sheet: &mut [u8], out: &mut [u8]) -> Ends
-    requires { ⌜ (length (now sheet) ≡ longestSheet) × (42 ≤ length (now out)) ⌝ }
+    requires { ⌜ (length (now sheet) ≡ longestSheet) × (longestRefusal ≤ length (now out)) ⌝ }
     ensures { λ r. ⌜ take (r .written) (now (sheet .exit)) ≡ Told.written (now (text .entry)) ⌝ }
     ensures { λ r. ⌜ r .written ≤ length (now (sheet .exit)) ⌝ }
     ensures { λ r. ⌜ Writes (Told.said (now (text .entry))) (now (out .entry)) 0 (now (out .exit)) (r .said) ⌝ }
     ensures { λ r. ⌜ r .said ≤ length (now (out .exit)) ⌝ }
 {
     let x = convert_text(text, sheet);
-    let said = put_line(out, x);
+    let said = put_refusal(out, x.refusal, x.place);
     Ends {
         written: x.written,
         said,
@@ -72,7 +57,7 @@ fn main() {
         return;
     }
     let mut sheet = [0u8; LENT_BYTES];
-    let mut out = [0u8; LONGEST_LINE];
+    let mut out = [0u8; LONGEST_REFUSAL];
     let ends = answer(&text[..n], &mut sheet, &mut out);
     if !io::write_all(STDOUT_FILENO, &sheet[..ends.written]) {
         os::fail(b"standard output");

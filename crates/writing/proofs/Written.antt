@@ -32,6 +32,15 @@ write-append (b ∷ s) t o = write-append s t (put b o)
 pub then-writes : (s t : Bytes) (l m n : Bytes) (a b c : ℕ) → Writes s l a m b → Writes t m b n c → Writes (s ++ t) l a n c
 then-writes s t l m n a b c e f = f ∙ ap (write t) e ∙ sym (write-append s t (outOf l a))
 
+-- nothing at all
+pub none-written : (l : Bytes) (a : ℕ) → Writes [] l a l a
+unfolding write
+none-written l a = refl
+
+-- the same text, said in another way
+pub same-text : (s t : Bytes) (l m : Bytes) (a b : ℕ) → s ≡ t → Writes s l a m b → Writes t l a m b
+same-text s t l m a b e h = h ∙ ap (λ (x : Bytes). write x (outOf l a)) e
+
 -- a text with one byte behind it, and then another text
 pub text-then : (d : Bytes) (b : ℕ) (s : Bytes) (l m n : Bytes) (x y z : ℕ) → Writes (d ++ b ∷ []) l x m y → Writes s m y n z
     → Writes (d ++ b ∷ s) l x n z

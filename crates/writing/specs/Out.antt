@@ -2,7 +2,7 @@
 use mathlib.Core.Path.{_≡_}
 use mathlib.Core.List.{List, [], _∷_, _++_}
 use Prim.Native.Nat.{ℕ, _+_}
-use lib.Dec.{ltb}
+use lib.Dec.{ltb, eqb}
 use lib.ListN.{length, set}
 use Rattle.rules.specs.Base.{if_then_else_}
 use Rattle.rules.specs.Format.{Bytes}
@@ -39,3 +39,16 @@ unfoldable pub lineOf : List ℕ → Bytes
 lineOf [] = []
 lineOf (n ∷ []) = decimal n ++ bytes "\n"
 lineOf (n ∷ m ∷ ms) = decimal n ++ (bytes " " ++ lineOf (m ∷ ms))
+
+-- the line "refusal place", nothing where nothing is refused
+unfoldable pub refusalLine : ℕ → ℕ → Bytes
+refusalLine r p = if eqb r 0 then [] else lineOf (r ∷ p ∷ [])
+
+-- the longest one: twenty digits for each number, and one byte behind each
+abbrev pub longestRefusal : ℕ
+longestRefusal = 42
+
+-- ---- numbers of an exported call
+
+abbrev pub three : ℕ → ℕ → ℕ → List ℕ
+three a b c = a ∷ b ∷ c ∷ []

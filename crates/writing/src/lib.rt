@@ -1,12 +1,13 @@
-// Texts into a lent buffer. A writer is the buffer and a place in it, and gives the place behind what it wrote. What does not fit
+// Texts into a lent buffer, and numbers into a lent array. A writer is the buffer and a place in it, and gives the place behind what it wrote. What does not fit
 // is not written, and the place is then one past the buffer's end, where every later writer leaves it.
 ghost use mathlib.Core.Path.{_≡_};
 ghost use mathlib.Core.List.{[], _∷_, _++_};
-ghost use Prim.Native.Nat.{_+_, _-_, _%_};
+ghost use Prim.Native.Nat.{_+_, _-_, _%_, _≤_};
 ghost use lib.ListN.{length, replicate};
+ghost use Rattle.rules.specs.Base.{atFront};
 ghost use Rattle.rules.specs.Search.{five};
 ghost use Rattle.rules.specs.Product.{decimal, line};
-ghost use Rattle.writing.specs.Out.{Writes};
+ghost use Rattle.writing.specs.Out.{Writes, refusalLine, longestRefusal, three};
 
 // One byte.
 pub fn put(out: &mut [u8], at: usize, b: u8) -> usize
@@ -64,6 +65,21 @@ pub fn put_five(
     put_number(out, fifth, high as usize, b'\n')
 }
 
+// The longest line of a refusal: two numbers of at most twenty digits, and one byte behind each.
+pub const LONGEST_REFUSAL: usize = 42;
+
+// The line of a refusal and its place; nothing where the refusal is 0. It ends inside a buffer that has room for the longest one.
+pub fn put_refusal(out: &mut [u8], refusal: u32, place: usize) -> usize
+    ensures { λ r. ⌜ Writes (refusalLine refusal place) (now (out .entry)) 0 (now (out .exit)) r ⌝ }
+    ensures { λ r. ⌜ (longestRefusal ≤ length (now (out .entry)) → r ≤ length (now (out .exit))) ⌝ }
+{
+    if refusal == 0 {
+        return 0;
+    }
+    let second = put_number(out, 0, refusal as usize, b' ');
+    put_number(out, second, place, b'\n')
+}
+
 // Bytes as they are.
 pub fn put_bytes(out: &mut [u8], from: usize, bytes: &[u8]) -> usize
     ensures { λ r. ⌜ Writes (now (bytes .entry)) (now (out .entry)) from (now (out .exit)) r ⌝ }
@@ -87,4 +103,16 @@ pub fn put_zeros(out: &mut [u8], from: usize) -> usize
         at += 1;
     }
     at
+}
+
+// Three numbers of an answer at the front of an array that has room for them.
+pub fn put_three(answer: &mut [u64], first: u32, second: usize, third: usize)
+    ensures { λ _. ⌜ now (answer .exit) ≡ atFront (three first second third) (now (answer .entry)) ⌝ }
+{
+    if answer.len() < 3 {
+        return;
+    }
+    answer[0] = first as u64;
+    answer[1] = second as u64;
+    answer[2] = third as u64;
 }

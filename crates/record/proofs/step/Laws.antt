@@ -17,13 +17,13 @@ use Rattle.record.specs.Follow as F
 use Rattle.record.specs.Follow.{tickAfter, replayed}
 use Rattle.rules.proofs.Base.{and-left, and-right, and-both, or-elim, or-intro, all-below-elim, all-below-intro, below-suc, same-test}
 use Rattle.rules.proofs.Event.{event-ends, ends-event}
-use Rattle.reader.specs.Facts.{statementIn}
+use Rattle.reader.specs.Facts.{programIn, statementIn}
+use Rattle.reader.specs.Decoded.{halts}
+use Rattle.reader.proofs.Halts.{halts-same}
 use Rattle.state.specs.Shape.{sizesOf}
 use Rattle.state.proofs.Shape.{sizes-threads}
 use Rattle.search.specs.declared.fetch.Fetched.{Fetched}
-use Rattle.search.specs.Plan.{programIn}
-use Rattle.search.specs.Fetch.{halts, namesOf, Fetches}
-use Rattle.search.proofs.fetch.Laws.{halts-same}
+use Rattle.search.specs.Fetch.{namesOf, Fetches}
 use Rattle.record.specs.Replay.{threadAt, threadOf, stateOf, replayedOf}
 use Rattle.record.specs.Act.{atTick, Acts}
 use Rattle.expression.specs.declared.parts.Check.{Check}

@@ -15,14 +15,13 @@ use Rattle.expression.specs.Evaluation.{regsOf}
 use Rattle.reader.specs.declared.Index.{Index}
 use Rattle.reader.specs.declared.threads.ThreadEntry.{ThreadEntry}
 use Rattle.reader.specs.Index.{refusedIndex, indexOf}
-use Rattle.reader.specs.Facts.{threadIn}
+use Rattle.reader.specs.Facts.{programOf, programIn, threadIn}
 use Rattle.reader.proofs.Facts.{accepted, program-facts, index-facts, thread-in}
 use Rattle.state.specs.declared.State.{State}
 use Rattle.state.specs.Access.{threadAt}
 use Rattle.state.specs.Shape.{sizesOf, stateOf}
 use Rattle.state.proofs.Shape.{sizes-threads, sizes-regs, state-thread}
 use Rattle.search.specs.declared.plan.Plan.{Plan}
-use Rattle.search.specs.Plan.{programOf, programIn}
 use Rattle.record.specs.Follow as F
 use Rattle.record.specs.Claims.{EndsInLabel}
 use Rattle.record.specs.Start.{StartsFrom, VariablesFrom}

@@ -11,7 +11,7 @@ use Rattle.rules.specs.Program.{isHalt, Statement, Program}
 use Rattle.rules.specs.Format.{Bytes, Names, got, readArith, readCondition}
 use Rattle.reader.specs.Index.{noEntry}
 use Rattle.reader.specs.Decoded.{bodyEnd, actionOf}
-use Rattle.reader.specs.Facts.{threadIn, Named, Targets, Expresses}
+use Rattle.reader.specs.Facts.{programIn, threadIn, Named, Targets, Expresses}
 use Rattle.reader.specs.declared.decoding.Action.{Action}
 use Rattle.reader.specs.declared.decoding.Action.the-variants.{Halt, Skip, Assign, Branch, Store, Load, Unlock, Lock}
 use Rattle.reader.specs.declared.threads.ThreadEntry.{ThreadEntry}
@@ -20,7 +20,7 @@ use Rattle.state.specs.Shape.{sizesOf}
 use Rattle.state.proofs.Shape.{sizes-regs}
 use Rattle.search.specs.declared.plan.Plan.{Plan}
 use Rattle.search.specs.declared.fetch.Fetched.{Fetched}
-use Rattle.search.specs.Plan.{programIn, Planned}
+use Rattle.search.specs.Plan.{Planned}
 use Rattle.search.specs.Fetch.{namesOf, Fetches, OfProgram}
 
 -- the code's action k is the rules' action x, with what is known of it

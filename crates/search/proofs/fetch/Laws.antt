@@ -1,12 +1,10 @@
 -- A statement fetched by its number is the program's statement, or none.
 use mathlib.Core.Path.{_≡_, refl, sym, ap, subst, _∙_}
 use mathlib.Core.Bool.{false}
-use mathlib.Core.List.{List, [], _∷_}
+use mathlib.Core.List.{List}
 use Prim.Native.Nat.{ℕ, _+_, _*_, _≤_, _<_}
 use native.Mathlib.Omega.{arith}
 use lib.ListN.{length, getD, List·getD-eq-default}
-use denote.Enum.Declared.{tagOf}
-use types.Run.{OneOf, miss}
 use Rattle.rules.specs.Constants.{mostThreads, mostStatements}
 use Rattle.rules.specs.Program as R
 use Rattle.rules.specs.Program.{isHalt, noStatement}
@@ -14,43 +12,15 @@ use Rattle.rules.specs.Format.{Bytes, Names}
 use Rattle.reader.specs.Ticks.{tick}
 use Rattle.reader.specs.Index.{noEntry}
 use Rattle.reader.specs.Decoded.{statementAt, statementOf, actionOf}
-use Rattle.reader.specs.Facts.{threadIn, statementIn, StatementFacts, Targets}
+use Rattle.reader.specs.Facts.{programIn, threadIn, statementIn, StatementFacts, Targets}
 use Rattle.reader.specs.declared.decoding.Action.{Action}
-use Rattle.reader.specs.declared.decoding.Action.the-variants.{Halt, Skip, Assign, Branch, Store, Load, Unlock, Lock}
+use Rattle.reader.specs.declared.decoding.Action.the-variants.{Halt}
 use Rattle.reader.specs.declared.decoding.Statement.{Statement}
 use Rattle.reader.proofs.Facts.{thread-in, statement-in, target-in}
-use Rattle.reader.proofs.decoding.Action as action
 use Rattle.search.specs.declared.plan.Plan.{Plan}
 use Rattle.search.specs.declared.fetch.Fetched.{Fetched}
-use Rattle.search.specs.Plan.{programIn, Ready}
-use Rattle.search.specs.Fetch.{halts, namesOf, Fetches}
-
--- ---- which action halts
-
--- the numbers of the variants behind `Halt`
-abbrev pub goingOn : List ℕ
-goingOn = 1 ∷ 2 ∷ 3 ∷ 4 ∷ 5 ∷ 6 ∷ 7 ∷ []
-
-pub goes-on : (a : Action) → OneOf goingOn (tagOf action.the-type a) → false ≡ halts a
-goes-on Halt h = absurd (miss goingOn 0 tt h)
-goes-on Skip h = refl
-goes-on (Assign r at e) h = refl
-goes-on (Branch t at e) h = refl
-goes-on (Store r v) h = refl
-goes-on (Load r v) h = refl
-goes-on (Unlock l) h = refl
-goes-on (Lock l) h = refl
-
-pub halts-same : (at e : ℕ) (o : R.Action) → halts (actionOf at e o) ≡ isHalt o
-unfolding actionOf isHalt
-halts-same at e R.halt = refl
-halts-same at e R.skip = refl
-halts-same at e (R.assign r a) = refl
-halts-same at e (R.branch t c) = refl
-halts-same at e (R.store r v) = refl
-halts-same at e (R.load r v) = refl
-halts-same at e (R.unlock l) = refl
-halts-same at e (R.lock l) = refl
+use Rattle.search.specs.Plan.{Ready}
+use Rattle.search.specs.Fetch.{namesOf, Fetches}
 
 -- ---- no statement, and the statement at a place
 

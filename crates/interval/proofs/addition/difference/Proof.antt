@@ -1,6 +1,9 @@
 -- `interval::addition::difference` meets its contract. Assumes nothing.
-use Rattle.rules.specs.Interval.{combine, mayDivideByZero, operate, hull}
+use mathlib.Core.Path.{ap, _∙_}
+use Rattle.rules.specs.Constants.{half32}
+use Rattle.rules.specs.Interval.{minus, combine, mayDivideByZero, operate, within}
 use borrow.Author.Needs.{needs}
+use Rattle.interval.proofs.Hulls.{hull-at-ends}
 use Rattle.interval.proofs.addition.difference.Statement.{statement}
 use Rattle.interval.proofs.addition.difference.Tie as tie
 
@@ -20,8 +23,8 @@ hull-requires : tie.Need-hull-requires
 hull-requires c κs = search needs
 
 returns : tie.Need-returns
-unfolding combine mayDivideByZero operate hull
-returns c = cc
+unfolding combine mayDivideByZero operate
+returns c = c .hull .ensures ∙ ap (within half32) (hull-at-ends (operate minus) _ _ (c .before .before .before .before .subtract .ensures) (c .before .before .before .subtract2 .ensures) (c .before .before .subtract3 .ensures) (c .before .subtract4 .ensures))
 
 pub difference-spec : {M : Type 1} → statement M
 difference-spec =

@@ -1,7 +1,9 @@
 -- `interval::division::quotient` meets its contract. Assumes nothing.
-use mathlib.Core.Path.{sym, _∙_}
-use Rattle.rules.specs.Interval.{combine, mayDivideByZero, operate, hull}
+use mathlib.Core.Path.{sym, ap, _∙_}
+use Rattle.rules.specs.Constants.{half32}
+use Rattle.rules.specs.Interval.{divide, combine, mayDivideByZero, operate, within}
 use borrow.Author.Needs.{needs}
+use Rattle.interval.proofs.Hulls.{hull-at-ends}
 use Rattle.interval.proofs.division.quotient.Statement.{statement}
 use Rattle.interval.proofs.division.quotient.Tie as tie
 
@@ -28,8 +30,10 @@ hull-requires : tie.Need-hull-requires
 hull-requires c κs = search needs
 
 returns-2 : tie.Need-returns-2
-unfolding combine mayDivideByZero operate hull
-returns-2 c = rw (sym (c .before .before .before .before .before .before .holds-zero .ensures) ∙ c .before .before .before .before .before .if1 .left) (cc)
+unfolding combine mayDivideByZero operate
+returns-2 c =
+    rw (sym (c .before .before .before .before .before .before .holds-zero .ensures) ∙ c .before .before .before .before .before .if1 .left)
+    (c .hull .ensures ∙ ap (within half32) (hull-at-ends (operate divide) _ _ (c .before .before .before .before .divide .ensures) (c .before .before .before .divide2 .ensures) (c .before .before .divide3 .ensures) (c .before .divide4 .ensures)))
 
 pub quotient-spec : {M : Type 1} → statement M
 quotient-spec =

@@ -1,5 +1,8 @@
 -- `interval::multiplication::hull_of_values` meets its contract. Assumes nothing.
+use mathlib.Core.Path.{ap₂}
+use Rattle.rules.specs.Interval.{interval, minZ, maxZ}
 use borrow.Author.Needs.{needs}
+use Rattle.interval.proofs.Hulls.{two-by-two}
 use Rattle.interval.proofs.multiplication.hull_of_values.Statement.{statement}
 use Rattle.interval.proofs.multiplication.hull_of_values.Tie as tie
 
@@ -22,7 +25,10 @@ upper-requires-3 : tie.Need-upper-requires-3
 upper-requires-3 c κs = search needs
 
 returns : tie.Need-returns
-returns c = cc
+returns c =
+    let low = two-by-two minZ (c .before .before .before .before .before .lower .ensures) (c .before .before .before .before .lower2 .ensures) (c .before .before .before .lower3 .ensures) in
+    let high = two-by-two maxZ (c .before .before .upper .ensures) (c .before .upper2 .ensures) (c .upper3 .ensures) in
+    ap₂ interval low high
 
 pub hull-of-values-spec : {M : Type 1} → statement M
 hull-of-values-spec =

@@ -1,14 +1,17 @@
 -- `interval::multiplication::product` meets its contract. Assumes nothing.
 use Prim.Native.Nat.{_^_}
-use mathlib.Core.Path.{sym, _∙_}
+use mathlib.Core.Path.{sym, ap, _∙_}
 use native.Mathlib.Omega.{arith}
 use lib.IntN.{_*ℤ_}
 use mir.Syntax.{w32}
 use mir.Val.{SFits}
-use Rattle.rules.specs.Interval.{combine, mayDivideByZero, operate, hull}
+use Rattle.rules.specs.Constants.{half32}
+use Rattle.rules.specs.Refusal.{value}
+use Rattle.rules.specs.Interval.{times, combine, mayDivideByZero, operate, within}
 use Rattle.rules.proofs.Hull.{Corners, each-corner}
 use borrow.Author.Needs.{needs}
 use Rattle.interval.specs.Shape.{intervalOf}
+use Rattle.interval.proofs.Hulls.{hull-at-ends}
 use Rattle.interval.proofs.Laws.{fits-in}
 use Rattle.interval.proofs.Products.{products-small, product-is}
 use Rattle.interval.proofs.multiplication.product.Statement.{statement}
@@ -43,8 +46,9 @@ hull-of-values-requires : tie.Need-hull-of-values-requires
 hull-of-values-requires c κs = search needs
 
 returns : tie.Need-returns
-unfolding hull
-returns c = let is = product-is (2 ^ 31) _ _ (each-corner (fit (c .before .before .before .before .before)) (λ z. fits-in)) in cc
+returns c =
+    let is = product-is (2 ^ 31) _ _ (each-corner (fit (c .before .before .before .before .before)) (λ z. fits-in)) in
+    ap value (c .hull-of-values .ensures ∙ hull-at-ends _*ℤ_ _ _ (c .before .before .before .before .multiply-in-32-bits .ensures) (c .before .before .before .multiply-in-32-bits2 .ensures) (c .before .before .multiply-in-32-bits3 .ensures) (c .before .multiply-in-32-bits4 .ensures)) ∙ sym is
 
 multiply-requires : tie.Need-multiply-requires
 multiply-requires c κs = search needs
@@ -62,8 +66,8 @@ hull-requires : tie.Need-hull-requires
 hull-requires c κs = search needs
 
 returns-2 : tie.Need-returns-2
-unfolding combine mayDivideByZero operate hull
-returns-2 c = cc
+unfolding combine mayDivideByZero operate
+returns-2 c = c .hull .ensures ∙ ap (within half32) (hull-at-ends (operate times) _ _ (c .before .before .before .before .multiply .ensures) (c .before .before .before .multiply2 .ensures) (c .before .before .multiply3 .ensures) (c .before .multiply4 .ensures))
 
 pub product-spec : {M : Type 1} → statement M
 product-spec =

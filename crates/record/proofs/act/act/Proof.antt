@@ -1,8 +1,8 @@
 -- `record::act::act` meets its contract. Assumes nothing.
 use native.Mathlib.Omega.{arith}
 use Rattle.reader.specs.declared.decoding.Action.the-variants.{Halt, Skip, Assign, Branch, Store, Load, Unlock, Lock}
+use Rattle.reader.specs.Facts.{programIn}
 use Rattle.state.specs.Shape.{sizesOf}
-use Rattle.search.specs.Plan.{programIn}
 use Rattle.search.specs.Fetch.{namesOf}
 use Rattle.search.proofs.fetch.Asks.{fetched, sizes-are, skip-asks, assign-asks, branch-asks, store-asks, load-asks, unlock-asks, lock-asks}
 use Rattle.record.specs.Replay.{threadAt}

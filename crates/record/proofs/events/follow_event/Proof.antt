@@ -2,7 +2,7 @@
 use mathlib.Core.Path.{_∙_}
 use native.Mathlib.Omega.{arith}
 use Rattle.state.specs.Shape.{sizesOf}
-use Rattle.search.specs.Plan.{programIn}
+use Rattle.reader.specs.Facts.{programIn}
 use Rattle.record.specs.Replay.{replayOf, replayedOf}
 use Rattle.record.proofs.events.Laws.{event-refused, event-room, event-there}
 use borrow.Author.Needs.{needs}

@@ -5,7 +5,7 @@ use native.Mathlib.Omega.{arith}
 use Prim.Native.Nat.{_-_, _*_, _≤_}
 use lib.ListN.{length}
 use Rattle.state.specs.Shape.{sizesOf}
-use Rattle.search.specs.Plan.{programIn}
+use Rattle.reader.specs.Facts.{programIn}
 use Rattle.record.specs.Follow.{followFrom}
 use Rattle.record.specs.Replay.{replayOf}
 use Rattle.record.proofs.Loop.{from-end}

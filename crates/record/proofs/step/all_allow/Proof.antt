@@ -7,7 +7,7 @@ use lib.Dec.{T}
 use lib.ListN.{length}
 use Rattle.rules.specs.Base.{allBelow}
 use Rattle.state.specs.Shape.{sizesOf}
-use Rattle.search.specs.Plan.{programIn}
+use Rattle.reader.specs.Facts.{programIn}
 use Rattle.record.specs.Replay.{stateOf}
 use Rattle.record.specs.Step.{allowsAt}
 use Rattle.record.proofs.replay.Ownership.{four-of}

@@ -3,10 +3,9 @@ use mathlib.Core.Path.{refl, sym, ap, _∙_}
 use lib.ListN.{getD}
 use Rattle.reader.specs.declared.threads.ThreadEntry.{ThreadEntry}
 use Rattle.reader.specs.Index.{noEntry}
-use Rattle.reader.specs.Facts.{statementIn}
+use Rattle.reader.specs.Facts.{programIn, statementIn}
 use Rattle.state.specs.Shape.{sizesOf}
 use Rattle.state.proofs.Shape.{sizes-regs}
-use Rattle.search.specs.Plan.{programIn}
 use Rattle.record.specs.Replay.{threadAt, stateOf}
 use Rattle.record.proofs.replay.Ownership.{four-of}
 use Rattle.record.proofs.step.Laws.{due-is, live-is, an-event, not-due, not-allowed}

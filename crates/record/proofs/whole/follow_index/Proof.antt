@@ -2,7 +2,7 @@
 use mathlib.Core.Path.{ap, _∙_}
 use Rattle.record.specs.Follow.{answerOf}
 use Rattle.state.proofs.Ownership.{sound-of}
-use Rattle.search.specs.Plan.{programIn}
+use Rattle.reader.specs.Facts.{programIn}
 use Rattle.search.proofs.WholeLaws.{ready}
 use Rattle.record.proofs.whole.Start.{starts-from, followed-is}
 use borrow.Author.Needs.{needs}

@@ -4,7 +4,7 @@ use native.Mathlib.Omega.{arith}
 use Rattle.refusal.specs.Shape.{ruleOf}
 use Rattle.expression.specs.declared.parts.Check.{Check}
 use Rattle.state.specs.Shape.{sizesOf}
-use Rattle.search.specs.Plan.{programIn}
+use Rattle.reader.specs.Facts.{programIn}
 use Rattle.record.specs.Replay.{unlessFault, replayOf}
 use Rattle.record.specs.Reached.{placed}
 use Rattle.record.proofs.whole.Laws.{too-long, start-refused, started}

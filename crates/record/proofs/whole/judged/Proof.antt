@@ -4,7 +4,7 @@ use mathlib.Core.Bool.{Bool}
 use Rattle.record.specs.Follow.{leaves, answerOf}
 use Rattle.expression.specs.declared.parts.Check.{Check}
 use Rattle.state.specs.Shape.{sizesOf}
-use Rattle.search.specs.Plan.{programIn}
+use Rattle.reader.specs.Facts.{programIn}
 use Rattle.record.specs.Replay.{unlessFault, replayOf}
 use Rattle.record.specs.Reached.{placed}
 use borrow.Author.Needs.{needs}

@@ -2,10 +2,10 @@
 use mathlib.Core.Path.{refl}
 use Rattle.rules.specs.Search.{effect}
 use Rattle.reader.specs.declared.decoding.Action.the-variants.{Halt, Skip, Assign, Branch, Store, Load, Unlock, Lock}
+use Rattle.reader.specs.Facts.{programIn}
 use Rattle.state.specs.Access.{threadAt}
 use Rattle.state.specs.Shape.{sizesOf}
 use Rattle.state.proofs.Shape.{sizes-regs}
-use Rattle.search.specs.Plan.{programIn}
 use Rattle.search.specs.Fetch.{namesOf}
 use Rattle.search.proofs.PushLaws.{none-pushed}
 use Rattle.search.proofs.fetch.Asks.{fetched, sizes-are, skip-asks, assign-asks, branch-asks, store-asks, load-asks, unlock-asks, lock-asks}

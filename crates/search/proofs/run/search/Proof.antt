@@ -9,7 +9,7 @@ use Rattle.rules.specs.Search as S
 use Rattle.rules.specs.Search.{unseen}
 use Rattle.state.specs.Shape.{sizesOf, stateOf, statesOf}
 use Rattle.state.proofs.Ownership.{sound-of}
-use Rattle.search.specs.Plan.{programIn}
+use Rattle.reader.specs.Facts.{programIn}
 use Rattle.search.specs.Run.{windowOf}
 use Rattle.search.proofs.RunLaws.{Goes, Taken, goes-start, goes-from, goes-out, goes-short, goes-refused, goes-full, goes-ended, goes-on}
 use Rattle.state.specs.Cells.{decode, stackOf}

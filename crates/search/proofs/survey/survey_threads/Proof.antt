@@ -7,8 +7,7 @@ use Rattle.state.specs.Cells.{decode}
 use Rattle.rules.specs.Constants.{mostThreads}
 use Rattle.state.specs.declared.Clock.{Clock}
 use Rattle.state.proofs.Slot.{decode-sound}
-use Rattle.reader.specs.Facts.{statementIn}
-use Rattle.search.specs.Plan.{programIn}
+use Rattle.reader.specs.Facts.{programIn, statementIn}
 use Rattle.search.specs.Fetch.{namesOf, Fetches}
 use Rattle.reader.specs.Ticks.{tick}
 use Rattle.search.specs.Survey.{addThread, never, EarliestFrom}

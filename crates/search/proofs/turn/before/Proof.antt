@@ -5,12 +5,11 @@ use mathlib.Core.Path.{refl, sym, ap, subst, _∙_}
 use Prim.Native.Nat.{ℕ, max}
 use native.Mathlib.Omega.{arith}
 use Rattle.rules.specs.Search as S
-use Rattle.reader.specs.Facts.{statementIn}
+use Rattle.reader.specs.Facts.{programIn, statementIn}
 use Rattle.state.specs.Shape.{sizesOf, stateOf, threadOf}
 use Rattle.state.specs.Access.{threadAt}
 use Rattle.state.specs.Cells.{decode}
 use Rattle.state.proofs.Slot.{decode-sound}
-use Rattle.search.specs.Plan.{programIn}
 use Rattle.search.specs.Fetch.{namesOf, Fetches}
 use Rattle.search.specs.Turn.{Makes}
 use Rattle.search.specs.declared.act.Event.{Event}

@@ -3,7 +3,7 @@ use borrow.Author.Needs.{needs}
 use native.Mathlib.Omega.{arith}
 use Prim.Native.Nat.{_-_}
 use Rattle.state.specs.Cells.{decode}
-use Rattle.search.specs.Plan.{programIn}
+use Rattle.reader.specs.Facts.{programIn}
 use Rattle.search.proofs.ExpandLaws.{Expanding, expand-start, expand-length, expand-height, expand-later, expand-again, expand-done}
 use Rattle.search.proofs.turn.expand.Statement.{statement}
 use Rattle.search.proofs.turn.expand.Tie as tie

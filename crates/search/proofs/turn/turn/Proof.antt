@@ -2,7 +2,7 @@
 use native.Mathlib.Omega.{arith}
 use Rattle.state.specs.Cells.{decode}
 use Rattle.state.specs.Shape.{sizesOf}
-use Rattle.search.specs.Plan.{programIn}
+use Rattle.reader.specs.Facts.{programIn}
 use Rattle.search.proofs.WholeTurn.{turn-ended, turn-stuck, turn-past, turn-follows, limit-small, low-small}
 use borrow.Author.Needs.{needs}
 use Rattle.search.proofs.turn.turn.Statement.{statement}

@@ -4,7 +4,7 @@ use Prim.Native.Nat.{_/_}
 use native.Mathlib.Nat.{div-mul-le-self}
 use lib.ListN.{length}
 use Rattle.rules.specs.Constants.{numbersPerState}
-use Rattle.search.specs.Plan.{programIn}
+use Rattle.reader.specs.Facts.{programIn}
 use Rattle.search.proofs.WholeLaws.{no-slots, with-slots, positive}
 use borrow.Author.Needs.{needs}
 use Rattle.search.proofs.whole.search_slots.Statement.{statement}

@@ -1,0 +1,2 @@
+-- Laws of what the program gives.
+pub mod Laws

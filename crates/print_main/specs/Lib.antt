@@ -1,0 +1,2 @@
+-- What the program gives of a sheet.
+pub mod Told
