@@ -239,7 +239,7 @@ fn worded_at(s: &[u8], q: usize, code: u8, out: &mut [u8], at: usize) -> Acted
 }
 
 // From its first byte on, which is no space.
-pub fn action_at(s: &[u8], q: usize, out: &mut [u8], at: usize) -> Acted
+pub(crate) fn action_at(s: &[u8], q: usize, out: &mut [u8], at: usize) -> Acted
     requires { ⌜ (q ≤ length (now s)) × (spaces (drop q (now s)) ≡ drop q (now s)) × (at ≤ 65536) × (length (now out) < 65536) ⌝ }
     ensures { λ r. ⌜ Acts (now (s .entry)) (now (out .entry)) at (now (out .exit)) (actionHere (drop q (now (s .entry)))) r ⌝ }
     ensures { λ r. ⌜ OnwardActed (now (s .entry)) q at r ⌝ }

@@ -33,7 +33,7 @@ pub fn place_in(x: Step) -> usize
     }
 }
 
-pub fn then_symbol(s: &[u8], x: Step, w: &[u8]) -> Step
+pub(crate) fn then_symbol(s: &[u8], x: Step, w: &[u8]) -> Step
     requires { ⌜ (placeOf x ≤ length (now s)) × (0 < length (now w)) ⌝ }
     ensures { λ r. ⌜ readOf unit (now (s .entry)) r ≡ thenRead (readOf unit (now (s .entry)) x) (λ _ t. symbol (now (w .entry)) t) ⌝ }
     ensures { λ r. ⌜ Beyond (now (s .entry)) x r ⌝ }
@@ -55,7 +55,7 @@ pub fn then_word(s: &[u8], x: Step, w: &[u8]) -> Step
     }
 }
 
-pub fn then_name(s: &[u8], x: Step, w: &[u8]) -> Step
+pub(crate) fn then_name(s: &[u8], x: Step, w: &[u8]) -> Step
     requires { ⌜ (placeOf x ≤ length (now s)) × (0 < length (now w)) ⌝ }
     ensures { λ r. ⌜ readOf same (now (s .entry)) r ≡ thenRead (readOf unit (now (s .entry)) x) (λ _ t. mapRead capped (name (now (w .entry)) t)) ⌝ }
     ensures { λ r. ⌜ Beyond (now (s .entry)) x r ⌝ }

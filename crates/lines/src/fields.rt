@@ -28,7 +28,7 @@ pub fn put_head(out: &mut [u8], at: usize, tag: u8, size: u64)
 }
 
 // The field of one byte.
-pub fn put_one(out: &mut [u8], at: usize, tag: u8, b: u8)
+pub(crate) fn put_one(out: &mut [u8], at: usize, tag: u8, b: u8)
     requires { ⌜ at ≤ 65536 ⌝ }
     ensures { λ _. ⌜ now (out .exit) ≡ sets (now (out .entry)) at (fieldOfOne tag b) ⌝ }
 {
@@ -47,7 +47,7 @@ fn put_range(out: &mut [u8], at: usize, tag: u8, a: u64, b: u64)
 }
 
 // A statement's bytes before its operands: tag, length, times, code.
-pub fn put_front(out: &mut [u8], at: usize, size: u64, a: u64, b: u64, code: u8)
+pub(crate) fn put_front(out: &mut [u8], at: usize, size: u64, a: u64, b: u64, code: u8)
     requires { ⌜ (at ≤ 65536) × (size < 65536) × (a < 65536) × (b < 65536) ⌝ }
     ensures { λ _. ⌜ now (out .exit) ≡ sets (now (out .entry)) at (frontBytes size a b code) ⌝ }
 {
@@ -67,13 +67,13 @@ pub fn put_none(out: &mut [u8], at: usize)
 
 // ---- of what was read, where it fits
 
-pub fn is_small(x: Step) -> bool
+pub(crate) fn is_small(x: Step) -> bool
     ensures { λ r. ⌜ r ≡ ltb (numberIn x) 256 ⌝ }
 {
     number_in(x) < 256
 }
 
-pub fn put_small(out: &mut [u8], at: usize, x: Step)
+pub(crate) fn put_small(out: &mut [u8], at: usize, x: Step)
     ensures { λ _. ⌜ now (out .exit) ≡ (if ltb (numberIn x) 256 then set (now (out .entry)) at (numberIn x) else now (out .entry)) ⌝ }
 {
     let v = number_in(x);
@@ -82,7 +82,7 @@ pub fn put_small(out: &mut [u8], at: usize, x: Step)
     }
 }
 
-pub fn put_small_field(out: &mut [u8], at: usize, tag: u8, x: Step)
+pub(crate) fn put_small_field(out: &mut [u8], at: usize, tag: u8, x: Step)
     requires { ⌜ at ≤ 65536 ⌝ }
     ensures { λ _. ⌜ now (out .exit) ≡ (if ltb (numberIn x) 256 then sets (now (out .entry)) at (fieldOfOne tag (numberIn x)) else now (out .entry)) ⌝ }
 {
@@ -92,7 +92,7 @@ pub fn put_small_field(out: &mut [u8], at: usize, tag: u8, x: Step)
     }
 }
 
-pub fn put_pair(out: &mut [u8], at: usize, tag: u8, x: Pair)
+pub(crate) fn put_pair(out: &mut [u8], at: usize, tag: u8, x: Pair)
     requires { ⌜ at ≤ 65536 ⌝ }
     ensures { λ _. ⌜ now (out .exit) ≡ putPair (now (out .entry)) at tag x ⌝ }
 {

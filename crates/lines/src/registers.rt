@@ -13,7 +13,7 @@ ghost use Rattle.lines.specs.Reading.{pair, pairOf, pairPlace, oneEnd};
 ghost use Rattle.lines.specs.Registers.{aheadOf};
 
 // A line of a word and two values.
-pub fn values_line(s: &[u8], q: usize, word: &[u8]) -> Pair
+pub(crate) fn values_line(s: &[u8], q: usize, word: &[u8]) -> Pair
     requires { ⌜ (q ≤ length (now s)) × (0 < length (now word)) ⌝ }
     ensures { λ r. ⌜ pairOf pair (now (s .entry)) r ≡ headLine (now (word .entry)) (range (oneEnd true) pair) (drop q (now (s .entry))) ⌝ }
     ensures { λ r. ⌜ Onward (now (s .entry)) q (pairPlace r) ⌝ }
@@ -24,7 +24,7 @@ pub fn values_line(s: &[u8], q: usize, word: &[u8]) -> Pair
 }
 
 // How many there are from here on, up to 255.
-pub fn registers_ahead(s: &[u8], p: usize) -> u8
+pub(crate) fn registers_ahead(s: &[u8], p: usize) -> u8
     requires { ⌜ p ≤ length (now s) ⌝ }
     ensures { λ r. ⌜ r ≡ min (aheadOf regDue (drop p (now (s .entry)))) 255 ⌝ }
 {

@@ -1,13 +1,2 @@
--- Parts of a list; the walk as a loop; its lengths, its changes made in the original, its places; a sheet that reads well; the answer;
--- the worked rows and the claims.
-pub mod Slices
-pub mod Walk
-pub mod Length
-pub mod Applied
-pub mod Places
-pub mod CopiedFields
-pub mod Copy
-pub mod Answer
+-- What the walk leaves in both buffers, and what the call makes of it.
 pub mod Mending
-pub mod Worked
-pub mod Claims

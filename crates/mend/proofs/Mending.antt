@@ -11,12 +11,12 @@ use Rattle.rules.specs.Constants.{longestSheet}
 use Rattle.rules.specs.Format.{Bytes}
 use Rattle.rules.proofs.Refusal.{positive}
 use Rattle.writing.proofs.Written.{fits-front, fits-inside, writes-length, writes-past}
+use Rattle.mended.specs.Mend.{mended, numbersOf, mendedWith, mend}
+use Rattle.mended.proofs.Length.{at-most-twice}
+use Rattle.mended.proofs.Answer.{refused-into, sheet-full, list-full, mends}
 use Rattle.mend.specs.declared.writer.Ends.{Ends}
 use Rattle.mend.specs.declared.verdict.Verdict.{Verdict}
-use Rattle.mend.specs.Mend.{mended, numbersOf, mendedWith, mend}
 use Rattle.mend.specs.Shape.{noEnds, Puts, refusedBy, Judged, refused, good}
-use Rattle.mend.proofs.Length.{at-most-twice}
-use Rattle.mend.proofs.Answer.{refused-into, sheet-full, list-full, mends}
 
 -- ---- after the walk, in a work buffer that has room
 

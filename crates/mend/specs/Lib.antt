@@ -1,5 +1,2 @@
--- Mending a garbled sheet (02, ticket 13): the definition, worked rows, the claims, and what the code writes in these terms.
-pub mod Mend
-pub mod Worked
-pub mod Claims
+-- What the code writes, and what the calls give back, in terms of the definitions of `mended`.
 pub mod Shape

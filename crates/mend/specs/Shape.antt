@@ -12,12 +12,12 @@ use Rattle.rules.specs.Program.{Program}
 use Rattle.rules.specs.Format.{Bytes, bad, got, readSheet}
 use Rattle.rules.specs.Sheets.{halt}
 use Rattle.writing.specs.Out.{Writes}
+use Rattle.mended.specs.Mend.{Mended, mended, mendSheet, numbersOf, Mending}
 use Rattle.mend.specs.declared.writer.Ends.{Ends}
 use Rattle.mend.specs.declared.place.Sought.{Sought}
 use Rattle.mend.specs.declared.place.Sought.the-variants.{Found, Further}
 use Rattle.mend.specs.declared.verdict.Verdict.{Verdict}
 use Rattle.mend.specs.declared.outputs.Mending as D
-use Rattle.mend.specs.Mend.{Mended, mended, mendSheet, numbersOf, Mending}
 
 -- the statement before a place, where it wants a halt behind it
 abbrev pub lastOf : Bool → ℕ → Option ℕ

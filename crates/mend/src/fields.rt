@@ -2,7 +2,7 @@
 use expression::int32_at;
 use expression::num16_at;
 use expression::num32_at;
-use reader::has_head;
+use field::has_head;
 ghost use mathlib.Core.Path.{_≡_};
 ghost use mathlib.Core.Bool.{_&&_, _||_};
 ghost use Prim.Native.Nat.{_+_, _≤_};
@@ -10,7 +10,7 @@ ghost use lib.Dec.{eqb, ltb};
 ghost use lib.Signed.{ltZ};
 ghost use lib.ListN.{length};
 ghost use Rattle.rules.specs.Format.{num16, num32, int32};
-ghost use Rattle.mend.specs.Mend as Rule;
+ghost use Rattle.mended.specs.Mend as Rule;
 
 const HEADER: u8 = 1;
 

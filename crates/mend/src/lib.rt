@@ -22,8 +22,8 @@ ghost use lib.ListN.{length};
 ghost use Rattle.rules.specs.Base.{atFront};
 ghost use Rattle.rules.specs.Constants.{longestSheet};
 ghost use Rattle.rules.specs.Demands.{Unchanged};
-ghost use Rattle.mend.specs.Mend as Rule;
-ghost use Rattle.mend.specs.Claims.{MendsWell};
+ghost use Rattle.mended.specs.Mend as Rule;
+ghost use Rattle.mended.specs.Claims.{MendsWell};
 ghost use Rattle.mend.specs.Shape.{mendingOf, four, FourIn, Leaves};
 
 // The mended sheet goes through the work buffer, which has room for it, since it may be refused before it is known to fit.

@@ -5,7 +5,7 @@ ghost use mathlib.Core.Path.{_≡_};
 ghost use Prim.Native.Nat.{_-_, _≤_};
 ghost use lib.ListN.{length, replicate};
 ghost use Rattle.writing.specs.Out.{Writes};
-ghost use Rattle.mend.specs.Mend.{filled};
+ghost use Rattle.mended.specs.Mend.{filled};
 ghost use Rattle.mend.specs.Shape.{mendingOf, refusedBy};
 
 // Refusal 0: so many bytes and so many numbers, two a change, were written. Another: the place in the sheet, and zeros.

@@ -2,12 +2,12 @@
 use crate::fields::behind;
 use crate::fields::is_added;
 use crate::fields::is_not_halt;
-use reader::fields::whole_field_at;
+use field::whole_field_at;
 ghost use mathlib.Core.Path.{_≡_};
 ghost use Prim.Native.Nat.{_+_, _≤_};
 ghost use lib.ListN.{length};
 ghost use Rattle.rules.specs.Constants.{longestSheet};
-ghost use Rattle.mend.specs.Mend as Rule;
+ghost use Rattle.mended.specs.Mend as Rule;
 ghost use Rattle.mend.specs.Shape.{pastHalt};
 
 // Bytes of a halt.

@@ -7,7 +7,7 @@ ghost use mathlib.Core.Path.{_≡_};
 ghost use Prim.Native.Nat.{_≤_};
 ghost use lib.ListN.{length};
 ghost use Rattle.rules.specs.Constants.{longestSheet};
-ghost use Rattle.mend.specs.Mend as Rule;
+ghost use Rattle.mended.specs.Mend as Rule;
 ghost use Rattle.mend.specs.Shape.{Judged};
 
 pub(crate) const LONGEST_SHEET: usize = 16384;

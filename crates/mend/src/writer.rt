@@ -6,14 +6,14 @@ use crate::fields::is_added;
 use crate::fields::is_not_halt;
 use crate::fields::is_reversed;
 use crate::fields::low_end;
-use reader::fields::whole_field_at;
+use field::whole_field_at;
 use writing::put_bytes;
 ghost use mathlib.Core.List.{[], _∷_};
 ghost use Prim.Native.Nat.{_+_, _≤_, _<_, _^_};
 ghost use lib.ListN.{length};
 ghost use Rattle.rules.specs.Constants.{longestSheet};
 ghost use Rattle.writing.specs.Out.{Writes};
-ghost use Rattle.mend.specs.Mend as Rule;
+ghost use Rattle.mended.specs.Mend as Rule;
 ghost use Rattle.mend.specs.Shape.{lastOf, noEnds, Puts};
 
 // The kinds of change.

@@ -17,11 +17,11 @@ use Rattle.rules.proofs.Longest.{told-by-front}
 use Rattle.writing.specs.Out.{outOf, write, Writes, lineOf}
 use Rattle.writing.proofs.Written.{then-writes, writes-length}
 use Rattle.writing.proofs.Line.{number-then, last-number, line-ends}
-use Rattle.mend.specs.Mend.{Mending, mended, refusedWith, mend}
-use Rattle.mend.specs.Claims.{MendClaims}
+use Rattle.mended.specs.Mend.{Mending, mended, refusedWith, mend}
+use Rattle.mended.specs.Claims.{MendClaims}
+use Rattle.mended.proofs.Answer.{sheet-reads, answer-inside, list-long}
+use Rattle.mended.proofs.Claims.{mend-claims}
 use Rattle.mend.specs.Shape.{four}
-use Rattle.mend.proofs.Answer.{sheet-reads, answer-inside, list-long}
-use Rattle.mend.proofs.Claims.{mend-claims}
 use Rattle.mend_main.specs.Text.{lentNumbers, longestText, answered, written, lines, fourOf, said, EnoughLent, EnoughRead}
 
 -- ---- lines

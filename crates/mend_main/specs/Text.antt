@@ -6,7 +6,7 @@ use lib.ListN.{take}
 use Rattle.rules.specs.Constants.{longestSheet}
 use Rattle.rules.specs.Format.{Bytes}
 use Rattle.writing.specs.Out.{lineOf}
-use Rattle.mend.specs.Mend.{Mending, mend}
+use Rattle.mended.specs.Mend.{Mending, mend}
 use Rattle.mend.specs.Shape.{four}
 
 -- it lends room for the longest sheet, and for these many numbers

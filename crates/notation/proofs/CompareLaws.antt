@@ -1,6 +1,7 @@
 -- Arithmetic that a first operand begins, and what compares it.
-use mathlib.Core.Path.{_≡_, refl, sym, _∙_}
+use mathlib.Core.Path.{_≡_, refl, sym, ap, subst, _∙_}
 use mathlib.Core.Bool.{Bool, true, false, _&&_}
+use mathlib.Core.List.{[], _∷_, _++_}
 use Prim.Native.Nat.{ℕ, _+_, _-_, _≤_, _<_, min}
 use native.Mathlib.Omega.{arith}
 use lib.ListN.{length, drop}
@@ -8,19 +9,34 @@ use Rattle.rules.specs.Format.{Bytes}
 use Rattle.rules.specs.Program.{Arith, Condition}
 use Rattle.text.specs.Words.{Read, stop, took, thenRead, mapRead}
 use Rattle.text.specs.Notation.{Thing, arithmetic, logical, onLink, onThing, chain, comparisons, products, sums, product, sum, factor, comparison, onward}
-use Rattle.scan.specs.Writing.{Made, Begun, Builds, OnwardBuilt, Inserted}
+use Rattle.scan.specs.Writing.{Wrote, Form, Made, Begun, Builds, OnwardBuilt, inserted}
 use Rattle.scan.specs.declared.step.Built.{Built}
 use Rattle.scan.specs.declared.step.Built.the-variants as built
-use Rattle.scan.proofs.BuildLaws.{built-stop, built-took}
+use Rattle.scan.proofs.BuildLaws.{wrote-append, wrote-insert, built-stop, built-took}
 use Rattle.notation.specs.Forms.{arithForm, conditionForm, thingForm, relOf, opsAt, arithAt, begins}
-use Rattle.notation.specs.Signs.{SignRead}
+use Rattle.notation.specs.Signs.{Coded, SignRead}
 use Rattle.notation.specs.declared.signs.Sign.{Sign}
 use Rattle.notation.specs.declared.signs.Sign.the-variants.{Joined, Nothing, Broken}
 use Rattle.notation.proofs.ArithLaws.{sum-level}
-use Rattle.notation.proofs.ChainLaws.{begun-more, sign-none, sign-broken, sign-joined, joined-facts}
+use Rattle.notation.proofs.ChainLaws.{sign-none, sign-broken, sign-joined, joined-facts}
 use Rattle.notation.proofs.CloseLaws.{made-logical, made-arithmetic}
 
 -- ---- arithmetic that is compared
+
+-- the code's byte is put before what stands written, and the other side is written behind
+begun-more : {A B : Type 0} {F : Form A} {G : Form B} {m : A → A → B} {o now mid after : Bytes} {at e k end c : ℕ} {f g h : Bool} {a b : A}
+    → Coded F G c m → length now < 65536 → length mid ≡ length now → length after ≡ length now → Begun F o at now e f a
+    → mid ≡ inserted now at e (c ∷ []) → k ≡ min (e + 1) 65536 → g ≡ F .fits b → Wrote mid k (F .bytes b) g after end → h ≡ (f && g)
+    → Begun G o at after end h (m a b)
+begun-more {F = F} {G} {m} {o} {now} {mid} {after} {at} {e} {k} {end} {c} {f} {g} {h} {a} {b} d s lm la u w j q v z =
+    let r : length o ≡ length now = u .room in
+    let x = wrote-insert o now mid at e k (c ∷ []) (F .bytes a) f r s (u .wrote) w j in
+    let y = wrote-append o mid after at k end (c ∷ F .bytes a) (F .bytes b) f g (omega arith) (omega arith) x v in
+    record {
+      fit-is = z ∙ ap (λ t. t && g) (u .fit-is) ∙ ap (λ t. F .fits a && t) q ∙ sym (d .fits-are a b);
+      wrote = subst (λ t. Wrote o at t h after end) (sym (d .bytes-are a b)) (subst (λ t. Wrote o at ((c ∷ F .bytes a) ++ F .bytes b) t after end) (sym z) y);
+      room = omega arith;
+    }
 
 module _ {s : Bytes} {p : ℕ} {r : Sign} (d : ℕ) (g : SignRead arithForm conditionForm relOf comparisons s p r) where
   pub compare-absent : {o now : Bytes} {at end : ℕ} {fits : Bool} {a : Arith} → r ≡ Nothing → Begun arithForm o at now end fits a
@@ -43,7 +59,7 @@ module _ {s : Bytes} {p : ℕ} {r : Sign} (d : ℕ) (g : SignRead arithForm cond
         rw (j, k′)
 
     pub compare-took : {o m mid after : Bytes} {at e k end t : ℕ} {f l g′ h′ : Bool} {a : Arith} → length m < 65536 → length mid ≡ length m
-        → length after ≡ length m → Begun arithForm o at m e f a → Inserted m at e c mid → k ≡ min (e + 1) 65536
+        → length after ≡ length m → Begun arithForm o at m e f a → mid ≡ inserted m at e (c ∷ []) → k ≡ min (e + 1) 65536
         → Made arithForm s mid k after (arithAt d 2 (drop q s)) l t end g′ → h′ ≡ (f && g′)
         → Made thingForm s o at after (comparison (factor d) a (drop p s)) true t end h′
     unfolding comparison onLink mapRead thingForm conditionForm

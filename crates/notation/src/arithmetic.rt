@@ -1,14 +1,16 @@
-// Arithmetic: read from left to right, written operator first. What stands left of an operator is moved on by one byte to make
-// room for it.
+// Arithmetic: read from left to right, written operator first. The operands are written one behind the other, and the operators that
+// join them are kept beside until what stands left of them is moved on to make room for all of these.
 use crate::closing::closed_at;
 use crate::signs::Sign;
 use crate::signs::operator_at;
 use scan::Built;
+use scan::MOST_KEPT;
 use scan::Step;
 use scan::TOO_BIG;
 use scan::both;
 use scan::digits_at;
 use scan::insert;
+use scan::keep;
 use scan::low_byte;
 use scan::negated;
 use scan::number_at;
@@ -91,7 +93,14 @@ fn leaf_at(s: &[u8], p: usize, out: &mut [u8], at: usize) -> Built
 }
 
 // A factor, a product or a sum, by its level.
-pub fn arith_at(s: &[u8], p: usize, depth: usize, level: usize, out: &mut [u8], at: usize) -> Built
+pub(crate) fn arith_at(
+    s: &[u8],
+    p: usize,
+    depth: usize,
+    level: usize,
+    out: &mut [u8],
+    at: usize,
+) -> Built
     requires { ⌜ (p ≤ length (now s)) × (at ≤ 65536) × (length (now out) < 65536) ⌝ }
     ensures { λ r. ⌜ (Builds arithForm (now (s .entry)) (now (out .entry)) at (now (out .exit)) (arithAt depth level (drop p (now (s .entry)))) r)
         × (OnwardBuilt (now (s .entry)) p at r) ⌝ }
@@ -107,7 +116,7 @@ pub fn arith_at(s: &[u8], p: usize, depth: usize, level: usize, out: &mut [u8], 
 }
 
 // The operands that follow one.
-pub fn chain_at(
+pub(crate) fn chain_at(
     s: &[u8],
     p: usize,
     depth: usize,
@@ -121,6 +130,8 @@ pub fn chain_at(
     ensures { λ r. ⌜ (ChainBuilds arithForm (opsAt level) (arithAt depth (level - 1)) (now (s .entry)) p (now (out .entry)) at end fits (now (out .exit)) r)
         × (OnwardBuilt (now (s .entry)) p at r) ⌝ }
 {
+    let mut codes = [0u8; MOST_KEPT];
+    let mut count = 0;
     let mut q = p;
     let mut e = end;
     let mut f = fits;
@@ -128,20 +139,21 @@ pub fn chain_at(
         let sign = operator_at(s, q, level);
         match sign {
             Sign::Nothing => {
-                return Built::Took(false, q, e, f);
+                let all = insert(out, at, e, &codes, count);
+                return Built::Took(false, q, all, f);
             }
             Sign::Broken(t) => {
                 return Built::Stop(t);
             }
             Sign::Joined(c, r) => {
-                insert(out, at, e, c);
-                let from = past(e, 1);
-                let x = arith_at(s, r, depth, level - 1, out, from);
+                let kept = keep(out, at, e, &mut codes, count, c);
+                let x = arith_at(s, r, depth, level - 1, out, kept.end);
                 match x {
                     Built::Stop(t) => {
                         return Built::Stop(t);
                     }
                     Built::Took(_, t, k, g) => {
+                        count = kept.count;
                         q = t;
                         e = k;
                         f = both(f, g);

@@ -9,7 +9,7 @@ ghost use Rattle.scan.specs.Writing.{builtPlace};
 ghost use Rattle.notation.specs.Forms.{arithForm, thingForm, Closes, Requires, KeepsOn};
 
 // What an opening parenthesis began, closed.
-pub fn closed_at(s: &[u8], x: Built) -> Built
+pub(crate) fn closed_at(s: &[u8], x: Built) -> Built
     requires { ⌜ builtPlace x ≤ length (now s) ⌝ }
     ensures { λ r. ⌜ (Closes arithForm (now (s .entry)) x r) × (Closes thingForm (now (s .entry)) x r) × (KeepsOn (now (s .entry)) x r) ⌝ }
 {
@@ -26,7 +26,7 @@ pub fn closed_at(s: &[u8], x: Built) -> Built
 }
 
 // Where a condition is due, arithmetic alone lacks its comparison: it stops at what stands behind it.
-pub fn condition_only(s: &[u8], x: Built) -> Built
+pub(crate) fn condition_only(s: &[u8], x: Built) -> Built
     requires { ⌜ builtPlace x ≤ length (now s) ⌝ }
     ensures { λ r. ⌜ (Requires (now (s .entry)) x r) × (KeepsOn (now (s .entry)) x r) ⌝ }
 {

@@ -6,7 +6,6 @@ use crate::signs::comparison_at;
 use scan::Built;
 use scan::both;
 use scan::insert;
-use scan::past;
 ghost use mathlib.Core.Path.{_≡_};
 ghost use Prim.Native.Nat.{_≤_, _<_};
 ghost use lib.ListN.{length, drop};
@@ -37,8 +36,8 @@ fn compare_at(
         Sign::Nothing => Built::Took(false, p, end, fits),
         Sign::Broken(q) => Built::Stop(q),
         Sign::Joined(c, q) => {
-            insert(out, at, end, c);
-            let from = past(end, 1);
+            let code = [c];
+            let from = insert(out, at, end, &code, 1);
             let x = arith_at(s, q, depth, 2, out, from);
             match x {
                 Built::Stop(t) => Built::Stop(t),
@@ -80,7 +79,7 @@ fn onward_at(
 }
 
 // A first operand that is written and, where it is arithmetic, all that it begins.
-pub fn begun_at(s: &[u8], x: Built, depth: usize, out: &mut [u8], at: usize) -> Built
+pub(crate) fn begun_at(s: &[u8], x: Built, depth: usize, out: &mut [u8], at: usize) -> Built
     requires { ⌜ (builtPlace x ≤ length (now s)) × (at ≤ builtEnd at x) × (builtEnd at x ≤ 65536) × (length (now out) < 65536) ⌝ }
     ensures { λ r. ⌜ ((o : Bytes) (g : Read Thing) → length o ≡ length (now (out .entry)) → Builds thingForm (now (s .entry)) o at (now (out .entry)) g x
         → Builds thingForm (now (s .entry)) o at (now (out .exit)) (begins depth g) r)

@@ -6,9 +6,11 @@ use crate::comparisons::begun_at;
 use crate::signs::Sign;
 use crate::signs::conjunction_at;
 use scan::Built;
+use scan::MOST_KEPT;
 use scan::Step;
 use scan::both;
 use scan::insert;
+use scan::keep;
 use scan::past;
 use scan::put;
 use scan::spaces_end;
@@ -159,6 +161,8 @@ fn conditions_at(
     ensures { λ r. ⌜ (ChainBuilds conditionForm conjunctions (atomic (startAt depth)) (now (s .entry)) p (now (out .entry)) at end fits (now (out .exit)) r)
         × (OnwardBuilt (now (s .entry)) p at r) ⌝ }
 {
+    let mut codes = [0u8; MOST_KEPT];
+    let mut count = 0;
     let mut q = p;
     let mut e = end;
     let mut f = fits;
@@ -166,21 +170,22 @@ fn conditions_at(
         let sign = conjunction_at(s, q);
         match sign {
             Sign::Nothing => {
-                return Built::Took(true, q, e, f);
+                let all = insert(out, at, e, &codes, count);
+                return Built::Took(true, q, all, f);
             }
             Sign::Broken(t) => {
                 return Built::Stop(t);
             }
             Sign::Joined(c, r) => {
-                insert(out, at, e, c);
-                let from = past(e, 1);
-                let x = atom_at(s, r, depth, out, from);
+                let kept = keep(out, at, e, &mut codes, count, c);
+                let x = atom_at(s, r, depth, out, kept.end);
                 let y = condition_only(s, x);
                 match y {
                     Built::Stop(t) => {
                         return Built::Stop(t);
                     }
                     Built::Took(_, t, k, g) => {
+                        count = kept.count;
                         q = t;
                         e = k;
                         f = both(f, g);
@@ -192,7 +197,7 @@ fn conditions_at(
 }
 
 // Arithmetic alone, or operands of `&&`.
-pub fn either_at(s: &[u8], p: usize, depth: usize, out: &mut [u8], at: usize) -> Built
+pub(crate) fn either_at(s: &[u8], p: usize, depth: usize, out: &mut [u8], at: usize) -> Built
     requires { ⌜ (p ≤ length (now s)) × (at ≤ 65536) × (length (now out) < 65536) ⌝ }
     ensures { λ r. ⌜ (Builds thingForm (now (s .entry)) (now (out .entry)) at (now (out .exit)) (either depth (drop p (now (s .entry)))) r)
         × (OnwardBuilt (now (s .entry)) p at r) ⌝ }

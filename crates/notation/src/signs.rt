@@ -14,7 +14,7 @@ pub enum Sign {
 }
 
 // The operator of a level that stands next.
-pub fn operator_at(s: &[u8], p: usize, level: usize) -> Sign
+pub(crate) fn operator_at(s: &[u8], p: usize, level: usize) -> Sign
     requires { ⌜ p ≤ length (now s) ⌝ }
     ensures { λ r. ⌜ SignRead arithForm arithForm operationOf (opsAt level) (now (s .entry)) p r ⌝ }
 {
@@ -42,7 +42,7 @@ pub fn operator_at(s: &[u8], p: usize, level: usize) -> Sign
 }
 
 // What compares.
-pub fn comparison_at(s: &[u8], p: usize) -> Sign
+pub(crate) fn comparison_at(s: &[u8], p: usize) -> Sign
     requires { ⌜ p ≤ length (now s) ⌝ }
     ensures { λ r. ⌜ SignRead arithForm conditionForm relOf comparisons (now (s .entry)) p r ⌝ }
 {
@@ -68,7 +68,7 @@ pub fn comparison_at(s: &[u8], p: usize) -> Sign
 }
 
 // The `&&`.
-pub fn conjunction_at(s: &[u8], p: usize) -> Sign
+pub(crate) fn conjunction_at(s: &[u8], p: usize) -> Sign
     requires { ⌜ p ≤ length (now s) ⌝ }
     ensures { λ r. ⌜ SignRead conditionForm conditionForm bothOf conjunctions (now (s .entry)) p r ⌝ }
 {

@@ -11,9 +11,9 @@ use Rattle.rules.specs.Format.{Bytes, got, readSheet}
 use Rattle.rules.specs.Encoding.{inRow}
 use Rattle.rules.specs.Product.{bytes}
 use Rattle.rules.proofs.Base.{each-get}
+use Rattle.field.specs.Decoded.{bodyEnd}
 use Rattle.reader.specs.declared.Index.{Index}
 use Rattle.reader.specs.declared.threads.ThreadEntry.{ThreadEntry}
-use Rattle.reader.specs.Decoded.{bodyEnd}
 use Rattle.reader.specs.Index.{noEntry, entryOf}
 use Rattle.reader.specs.Facts.{programIn, threadIn, statementIn, namesIn, ranges, StatementFacts, ProgramFacts, IndexFacts}
 use Rattle.reader.proofs.Facts.{accepted, program-facts, program-is, index-facts, thread-in, statement-in}

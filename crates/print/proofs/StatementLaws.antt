@@ -10,11 +10,11 @@ use Rattle.rules.specs.Format.{Bytes, Names}
 use Rattle.rules.specs.Product.{bytes, decimal}
 use Rattle.rules.proofs.Base.{if-ind}
 use Rattle.text.specs.Says.{statementLineOf}
-use Rattle.reader.specs.Decoded.{bodyEnd, decodeAction, statementAt, statementOf, actionOf, halts}
+use Rattle.field.specs.Decoded.{bodyEnd, decodeAction, statementAt, statementOf, actionOf, halts}
+use Rattle.field.specs.declared.decoding.Action.{Action}
+use Rattle.field.specs.declared.decoding.Statement.{Statement}
+use Rattle.field.proofs.Halts.{halts-same}
 use Rattle.reader.specs.Facts.{Expresses, StatementFacts}
-use Rattle.reader.specs.declared.decoding.Action.{Action}
-use Rattle.reader.specs.declared.decoding.Statement.{Statement}
-use Rattle.reader.proofs.Halts.{halts-same}
 use Rattle.writing.specs.Out.{Writes}
 use Rattle.writing.proofs.Written.{then-writes, same-text, none-written}
 use Rattle.printed.specs.Print.{printArith, anyArith, printCondition, anyCondition, printAction, printTimes, printLine, ended}

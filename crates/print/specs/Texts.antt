@@ -11,10 +11,10 @@ use Rattle.rules.specs.Encoding.{inRow}
 use Rattle.rules.specs.Product.{bytes}
 use Rattle.text.specs.Lines.{locksLine}
 use Rattle.text.specs.Says.{statementLineOf}
+use Rattle.field.specs.declared.decoding.Action.{Action}
+use Rattle.field.specs.declared.decoding.Action.the-variants.{Halt, Skip, Assign, Branch, Store, Load, Unlock, Lock}
 use Rattle.reader.specs.declared.Index.{Index}
 use Rattle.reader.specs.Index.{indexOf}
-use Rattle.reader.specs.declared.decoding.Action.{Action}
-use Rattle.reader.specs.declared.decoding.Action.the-variants.{Halt, Skip, Assign, Branch, Store, Load, Unlock, Lock}
 use Rattle.printed.specs.Print.{printRange, printAction, ended, printHeader}
 
 -- ---- what a statement does, as the code decodes it

@@ -1,10 +1,10 @@
 // What a statement does, from what was decoded of it; an expression is printed where it stands in the sheet.
 use expression::DEEPEST;
+use field::Action;
 use infix::ANY_ARITH;
 use infix::ANY_CONDITION;
 use infix::print_arith;
 use infix::print_condition;
-use reader::decoding::Action;
 use writing::put_bytes;
 use writing::put_decimal;
 ghost use mathlib.Core.Path.{_≡_};

@@ -2,8 +2,8 @@
 use crate::actions::put_named;
 use crate::rows::print_ranges;
 use crate::threads::print_threads;
+use field::VARIABLES_AT;
 use reader::Index;
-use reader::VARIABLES_AT;
 use writing::put;
 ghost use Rattle.reader.specs.Facts.{programIn};
 ghost use Rattle.writing.specs.Out.{Writes};

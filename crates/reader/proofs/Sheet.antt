@@ -16,15 +16,16 @@ use Rattle.refusal.specs.declared.Refusal.{Refusal}
 use Rattle.refusal.specs.declared.Refusal.the-variants.{TooLong}
 use Rattle.refusal.specs.Shape.{refusalOf, ruleOf}
 use Rattle.refusal.proofs.Laws.{rule-of-refusal}
-use Rattle.reader.specs.declared.outcome.Count.the-variants.{Found, Failed}
-use Rattle.reader.specs.declared.fields.Header.{Header}
+use Rattle.field.specs.declared.outcome.Count.the-variants.{Found, Failed}
+use Rattle.field.specs.declared.fields.Header.{Header}
+use Rattle.field.specs.Header.{headerOf, headerAt}
+use Rattle.field.proofs.outcome.Laws.{same-rule}
 use Rattle.reader.specs.declared.parts.Progress.{Progress}
 use Rattle.reader.specs.declared.parts.Progress.the-variants.{Read, Refused}
 use Rattle.reader.specs.declared.threads.Threads.{Threads}
 use Rattle.reader.specs.declared.Index.{Index}
 use Rattle.reader.specs.Index.{readUpTo, layPlaces, noPlaces, entriesOf, ThreadsRead, refusedIndex, indexWith, indexOf}
-use Rattle.reader.specs.Walk.{headerOf, headerAt, partOf, headerPart, locksPart, variablesPart, indexFrom, walkedIndex}
-use Rattle.reader.proofs.outcome.Laws.{same-rule}
+use Rattle.reader.specs.Walk.{partOf, headerPart, locksPart, variablesPart, indexFrom, walkedIndex}
 
 -- ---- what the code's answer on the threads says
 

@@ -14,7 +14,7 @@ use Rattle.rules.specs.Program.{Arith, Condition, Action, Statement}
 use Rattle.rules.specs.Format.{Bytes, byte, num16, Got, got, Names, readArith, readCondition, readAction, hasBody, readContents, readStatement, statementHere, readStatements}
 use Rattle.rules.proofs.Base.{and-left, and-right}
 use Rattle.rules.proofs.Format.{If, need-if, many-if, Timed, contents-timed}
-use Rattle.reader.specs.Decoded.{bodyEnd, decodeAction, statementAt, statementOf, actionOf}
+use Rattle.field.specs.Decoded.{bodyEnd, decodeAction, statementAt, statementOf, actionOf}
 use Rattle.reader.specs.Facts.{Named, Expresses, StatementFacts}
 use Rattle.rules.proofs.IfAt.{IfAt, need-at, map-at, exactly-at, any-at, plain, with-reading, when-got}
 

@@ -10,7 +10,7 @@ use Rattle.rules.specs.Base.{Each, _&_}
 use Rattle.rules.specs.Constants.{mostThreads, mostStatements}
 use Rattle.rules.specs.Program.{Statement, Thread, noStatement, noThread}
 use Rattle.reader.specs.Index.{placesOf, layPlaces, noEntry, entryOf, entriesOf}
-use Rattle.reader.proofs.Loops.{map-length}
+use Rattle.reader.proofs.Filled.{map-length}
 
 module _ {B : Type 0} (d : B) where
   sets-below : (l : List B) (i : ℕ) (vs : List B) (j : ℕ) → j < i → getD (sets l i vs) j d ≡ getD l j d

@@ -1,2 +1,3 @@
 -- What the proofs of several functions of `closing` cite.
 pub mod Laws
+pub mod Codes

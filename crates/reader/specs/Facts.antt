@@ -11,9 +11,9 @@ use Rattle.rules.specs.Interval.{Interval, interval}
 use Rattle.rules.specs.Program.{Action, halt, skip, assign, branch, store, load, unlock, lock, isHalt, Statement, Thread, Program, noStatement, noThread}
 use Rattle.rules.specs.Format.{Bytes, int32, Got, bad, got, Names, readArith, readCondition, readStatement, readSheet}
 use Rattle.rules.specs.Fits.{HeaderFits}
+use Rattle.field.specs.Decoded.{bodyEnd, statementAt, statementOf}
 use Rattle.reader.specs.declared.Index.{Index}
 use Rattle.reader.specs.Index.{noEntry, entryOf}
-use Rattle.reader.specs.Decoded.{bodyEnd, statementAt, statementOf}
 
 -- ---- the program that a sheet reads as
 

@@ -13,15 +13,15 @@ use Rattle.rules.specs.Program.{Statement, Thread, Program}
 use Rattle.rules.specs.Format.{Bytes, byte, Got, bad, got, need, readFields}
 use Rattle.refusal.specs.declared.Refusal.the-variants.{NoSuchName, NoHalt}
 use Rattle.refusal.specs.Shape.{refusalOf}
-use Rattle.reader.specs.Ticks.{tick}
-use Rattle.reader.specs.declared.outcome.End.{End}
-use Rattle.reader.specs.declared.outcome.End.the-variants.{Refused}
-use Rattle.reader.specs.declared.fields.Header.{Header}
+use Rattle.field.specs.Ticks.{tick}
+use Rattle.field.specs.declared.outcome.End.{End}
+use Rattle.field.specs.declared.outcome.End.the-variants.{At, Refused}
+use Rattle.field.specs.declared.fields.Header.{Header}
+use Rattle.field.specs.declared.outcome.Count.{Count}
+use Rattle.field.specs.declared.outcome.Count.the-variants.{Found, Failed}
 use Rattle.reader.specs.declared.threads.ThreadEntry.{ThreadEntry}
 use Rattle.reader.specs.declared.threads.Threads.{Threads}
 use Rattle.reader.specs.declared.Index.{Index}
-use Rattle.reader.specs.declared.outcome.Count.{Count}
-use Rattle.reader.specs.declared.outcome.Count.the-variants.{Found, Failed}
 
 -- a place in an index is a number of two bytes
 abbrev pub greatestPlace : ℕ
@@ -55,6 +55,11 @@ placesOf xs = map (λ (x : Statement). x .place) xs
 unfoldable pub StatementsRead : Got (List Statement) → ℕ → List ℕ → List ℕ → Count → Type 0
 StatementsRead (bad r p) base l m x = x ≡ Failed (refusalOf r) p
 StatementsRead (got xs q) base l m x = (x ≡ Found (length xs) q) × (m ≡ sets l base (placesOf xs)) × (length xs ≤ mostStatements)
+
+-- a reading that ended in a refusal, where a count is due
+unfoldable pub failure : End → Count
+failure (At q) = Found 0 q
+failure (Refused r p) = Failed r p
 
 unfoldable pub ThreadRead : Got Thread → ℕ → List ℕ → List ℕ → Count → Type 0
 ThreadRead (bad r p) base l m x = x ≡ Failed (refusalOf r) p

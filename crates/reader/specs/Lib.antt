@@ -1,8 +1,4 @@
--- What the reader's code is measured against: views of the rules' own readings, and the index of a sheet.
-pub mod Ticks
-pub mod Outcome
-pub mod Heads
+-- What the reader's code is measured against: the parts of a sheet, its index, and what holds of a sheet that reads.
 pub mod Index
 pub mod Walk
-pub mod Decoded
 pub mod Facts

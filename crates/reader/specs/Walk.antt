@@ -1,14 +1,12 @@
 -- The parts of a sheet in their order: what was read so far, and the reader moved on behind each. Behind all of them stands the
 -- index of the sheet.
 use mathlib.Core.List.{List}
-use Prim.Native.Nat.{ℕ, _+_}
+use Prim.Native.Nat.{ℕ}
 use lib.ListN.{length}
 use Rattle.rules.specs.Interval.{Interval}
-use Rattle.rules.specs.Program as rules
-use Rattle.rules.specs.Format.{Bytes, num32, Got, bad, got, due, sized, headerFits, readLocks, readVariables, readThreads}
+use Rattle.rules.specs.Format.{Bytes, Got, bad, got, readLocks, readVariables, readThreads}
 use Rattle.refusal.specs.Shape.{refusalOf, ruleOf}
-use Rattle.reader.specs.Ticks.{tick}
-use Rattle.reader.specs.declared.fields.Header.{Header}
+use Rattle.field.specs.Header.{headerOf, headerAt}
 use Rattle.reader.specs.declared.parts.Progress.{Progress}
 use Rattle.reader.specs.declared.parts.Progress.the-variants.{Read, Refused}
 use Rattle.reader.specs.declared.parts.Part.{Part}
@@ -16,19 +14,6 @@ use Rattle.reader.specs.declared.held.Reader.{Reader}
 use Rattle.reader.specs.declared.held.ReadOn.{ReadOn}
 use Rattle.reader.specs.declared.Index.{Index}
 use Rattle.reader.specs.Index.{refusedIndex, indexWith}
-
--- ---- the header, which the rules read at the sheet's start and the code at its reader's place
-
--- the rules' header as the code has it
-abbrev pub headerOf : rules.Header → Header
-headerOf h = record { limit = tick (h .limit); budget = h .budget; «label_low» = tick (h .labelLow); «label_high» = tick (h .labelHigh) }
-
--- the numbers in the body of the field at a place
-abbrev pub headerIn : Bytes → ℕ → rules.Header
-headerIn s at = record { limit = num32 s (at + 3); budget = num32 s (at + 7); labelLow = num32 s (at + 11); labelHigh = num32 s (at + 15) }
-
-unfoldable pub headerAt : Bytes → ℕ → Got rules.Header
-headerAt s at = due 1 s at (sized s at 16 (headerFits (num32 s (at + 3)) (num32 s (at + 7)) (num32 s (at + 11)) (num32 s (at + 15))) (headerIn s at))
 
 -- ---- a part, from what was read before it: a refusal is passed on
 

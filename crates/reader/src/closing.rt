@@ -1,6 +1,6 @@
 // Closing a thread, from the places of its statements: the last is halt, and every target stands in the thread.
-use crate::fields::byte_at;
-use crate::outcome::End;
+use field::End;
+use field::byte_at;
 use refusal::Refusal;
 ghost use mathlib.Core.Path.{_≡_};
 ghost use Prim.Native.Nat.{_+_, _≤_, _<_};

@@ -1,33 +1,22 @@
 // The reader of a sheet: any bytes to an index of the sheet, or the first refusal with its place.
-pub mod ticks; // ticks of a clock
-pub mod outcome; // what a reader gives
-mod heads; // the head of a field: its tag and its length
-pub mod fields; // a field of any tag, and the fields of tags 1, 3 and 4
-mod ranges; // the fields of tags 2 and 5
-mod operands; // what stands behind the code of a statement
-mod statements; // the field of tag 6
+mod places; // the statements of a thread, and the table of their places
 mod closing; // the closing of a thread
 pub mod threads; // threads, and the tables of an index
 mod parts; // the parts before the threads, and what was read so far
 mod held; // the reader that holds the sheet, and the walk of a sheet by it
-pub mod decoding; // a statement, by its place
 
-use crate::fields::Header;
 use crate::held::walk_sheet;
-use crate::outcome::Count;
 use crate::parts::Progress;
 use crate::threads::ThreadEntry;
 use crate::threads::read_threads;
-pub use heads::has_head;
-pub use ranges::RANGE_SIZE;
-pub use ranges::VARIABLES_AT;
+use field::Count;
+use field::Header;
+use field::Time;
+pub use places::MOST_STATEMENTS;
 use refusal::Refusal;
 use refusal::number_of;
-pub use statements::MOST_STATEMENTS;
-pub use statements::times_fit;
 pub use threads::MOST_THREADS;
 pub use threads::OPENING_SIZE;
-pub use ticks::Time;
 ghost use mathlib.Core.Path.{_≡_};
 ghost use Prim.Native.Nat.{_≤_};
 ghost use lib.ListN.{length};

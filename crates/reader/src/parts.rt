@@ -1,13 +1,13 @@
 // The parts of a sheet before its threads, in their order, and what was read so far.
 // Every function is given the whole sheet s, the place of its part in it, and what was read before; a refusal it passes on.
-use crate::fields::Header;
-use crate::fields::byte_at;
-use crate::fields::header_at;
-use crate::fields::header_end;
-use crate::fields::locks_end;
-use crate::outcome::Count;
-use crate::outcome::End;
-use crate::ranges::read_variables;
+use field::Count;
+use field::End;
+use field::Header;
+use field::byte_at;
+use field::header_at;
+use field::header_end;
+use field::locks_end;
+use field::read_variables;
 use refusal::Refusal;
 ghost use mathlib.Core.Path.{_≡_};
 ghost use Rattle.reader.specs.Walk.{headerPart, locksPart, variablesPart};

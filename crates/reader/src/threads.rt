@@ -1,21 +1,20 @@
 // Threads: the field of tag 4, the registers, the statements and the closing of each, and the tables of an index.
 use crate::closing::close_end;
-use crate::fields::byte_at;
-use crate::fields::open_end;
-use crate::operands::Names;
-use crate::outcome::Count;
-use crate::outcome::End;
-use crate::ranges::registers_end;
-use crate::statements::MOST_STATEMENTS;
-use crate::statements::read_statements;
+use crate::places::MOST_STATEMENTS;
+use crate::places::read_statements;
+use field::Count;
+use field::End;
+use field::Names;
+use field::byte_at;
+use field::open_end;
+use field::registers_end;
 use refusal::Refusal;
 ghost use mathlib.Core.Path.{_≡_};
 ghost use Prim.Native.Nat.{_+_, _*_, _≤_};
 ghost use lib.ListN.{length};
 ghost use Rattle.rules.specs.Constants.{mostThreads, mostStatements};
 ghost use Rattle.rules.specs.Format.{byte, readThread, readThreads};
-ghost use Rattle.reader.specs.Outcome.{failure};
-ghost use Rattle.reader.specs.Index.{greatestPlace, ThreadRead, ThreadsRead, entryWith};
+ghost use Rattle.reader.specs.Index.{greatestPlace, failure, ThreadRead, ThreadsRead, entryWith};
 
 pub const MOST_THREADS: usize = 4;
 

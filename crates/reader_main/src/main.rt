@@ -1,10 +1,10 @@
 // Reads sheets from standard input, each behind its length in two bytes, and writes a line for each: its refusal and place,
 // and where these are 0 the numbers of its index, an entry for each thread, and each statement as it decodes at its place.
+use field::Action;
+use field::statement_at;
 use reader::Index;
 use reader::MOST_STATEMENTS;
 use reader::MOST_THREADS;
-use reader::decoding::Action;
-use reader::decoding::statement_at;
 use reader::read_sheet;
 ghost use Prim.Native.Nat.{_<_};
 

@@ -7,7 +7,7 @@ use Rattle.rules.specs.Refusal.{Result, value, onValue}
 use Rattle.rules.specs.Program as P
 use Rattle.rules.specs.Run.{RunState, act}
 use Rattle.state.specs.Shape.{Sizes}
-use Rattle.record.specs.Follow as F
+use Rattle.recorded.specs.Follow as F
 use Rattle.record.specs.Replay.{threadAt, threadOf, stateOf, replayedOf, after}
 use Rattle.record.specs.declared.replay.Replay.{Replay}
 use Rattle.record.specs.declared.replay.Replayed.{Replayed}

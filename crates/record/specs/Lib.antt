@@ -1,9 +1,4 @@
--- 02, ticket 9: the rule, what the recorder writes, rows worked out by hand, what is claimed of the whole; then the code's data as the
--- rule's.
-pub mod Follow
-pub mod Recorder
-pub mod Worked
-pub mod Claims
+-- The code's data in terms of the rule, whose definitions stand in `recorded`.
 pub mod Known
 pub mod Replay
 pub mod Act

@@ -3,7 +3,7 @@ use Prim.Native.Nat.{ℕ}
 use Rattle.rules.specs.Refusal.{Result, value, fault}
 use Rattle.rules.specs.Format.{Got, bad, got}
 use Rattle.state.specs.Shape.{Sizes}
-use Rattle.record.specs.Follow as F
+use Rattle.recorded.specs.Follow as F
 use Rattle.record.specs.Replay.{unlessFault, replayOf}
 use Rattle.record.specs.declared.events.Reached.{Reached}
 

@@ -12,7 +12,7 @@ use Rattle.interval.specs.declared.Val.{Val}
 use Rattle.expression.specs.declared.parts.Check.{Check}
 use Rattle.expression.specs.declared.parts.Check.the-variants.{Passed, Fault}
 use Rattle.state.specs.Shape.{Sizes, ownersOf}
-use Rattle.record.specs.Follow as F
+use Rattle.recorded.specs.Follow as F
 use Rattle.record.specs.Known.{valuesOf}
 use Rattle.record.specs.declared.replay.RunThread.{RunThread}
 use Rattle.record.specs.declared.replay.Replay.{Replay}

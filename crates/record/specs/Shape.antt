@@ -4,8 +4,8 @@ use mathlib.Core.Bool.{false}
 use mathlib.Core.List.{List}
 use Prim.Native.Nat.{ℕ}
 use Rattle.rules.specs.Base.{atFront}
-use Rattle.record.specs.Follow.{Answer, theSheet, theRecord, listed}
-use Rattle.record.specs.Follow as F
+use Rattle.recorded.specs.Follow.{Answer, theSheet, theRecord, listed}
+use Rattle.recorded.specs.Follow as F
 use Rattle.record.specs.declared.whole.File.{File}
 use Rattle.record.specs.declared.whole.File.the-variants.{Sheet, Record}
 use Rattle.record.specs.declared.whole.Followed.{Followed}

@@ -15,8 +15,8 @@ use Rattle.reader.specs.Facts.{threadIn}
 use Rattle.state.specs.declared.State.{State}
 use Rattle.state.specs.Access.{threadAt}
 use Rattle.state.specs.Shape.{Sizes, ownersOf}
-use Rattle.search.specs.declared.plan.Plan.{Plan}
-use Rattle.record.specs.Follow as F
+use Rattle.event.specs.declared.plan.Plan.{Plan}
+use Rattle.recorded.specs.Follow as F
 use Rattle.record.specs.Known.{valuesOf}
 use Rattle.record.specs.Replay.{unlessFault, threadsOf, after}
 use Rattle.record.specs.Reached.{placed}

@@ -10,10 +10,10 @@ use Rattle.rules.specs.Run.{RunState, threadOf, statementOf, live}
 use Rattle.expression.specs.declared.parts.Check.{Check}
 use Rattle.expression.specs.declared.parts.Check.the-variants.{Passed, Fault}
 use Rattle.state.specs.Shape.{sizesOf}
-use Rattle.search.specs.declared.plan.Plan.{Plan}
+use Rattle.event.specs.declared.plan.Plan.{Plan}
 use Rattle.reader.specs.Facts.{programIn}
-use Rattle.search.specs.Plan.{Ready}
-use Rattle.record.specs.Follow as F
+use Rattle.event.specs.Plan.{Ready}
+use Rattle.recorded.specs.Follow as F
 use Rattle.record.specs.Replay.{unlessFault, replayOf}
 use Rattle.record.specs.declared.replay.Replay.{Replay}
 

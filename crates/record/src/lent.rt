@@ -2,9 +2,9 @@
 use crate::replay::Replay;
 use crate::replay::Replayed;
 use crate::step::replay;
+use event::plan::Plan;
 use expression::Check;
 use reader::MOST_PLACES;
-use search::plan::Plan;
 ghost use Rattle.record.specs.Step.{Asks, Takes};
 
 // The lent state takes one event: what the step leaves of it is written back; an event that is refused leaves it as it was.

@@ -1,8 +1,8 @@
 // Follows what the machine recorded: a sheet and a record in, and whether the record is a run of the sheet that leaves a state.
 ghost use mathlib.Core.Path.{_≡_};
 ghost use Rattle.rules.specs.Demands.{Unchanged};
-ghost use Rattle.record.specs.Follow as F;
-ghost use Rattle.record.specs.Claims.{EndsInLabel};
+ghost use Rattle.recorded.specs.Follow as F;
+ghost use Rattle.recorded.specs.Claims.{EndsInLabel};
 ghost use Rattle.record.specs.Shape.{fileOf, FiveIn};
 
 mod replay; // the replay state, by value

@@ -2,8 +2,8 @@
 // tick of the last event. There is always room for 4 threads, 8 registers each, 8 variables and 8 locks; the sheet says how many
 // of them count.
 use expression::Check;
+use field::Time;
 use interval::Val;
-use reader::Time;
 use refusal::Refusal;
 ghost use mathlib.Core.Path.{_≡_};
 ghost use Prim.Native.Nat.{_<_};

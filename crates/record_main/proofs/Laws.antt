@@ -15,7 +15,7 @@ use Rattle.rules.proofs.Longest.{told-by-front, sheet-told}
 use Rattle.writing.specs.Out.{outOf, write, Writes}
 use Rattle.writing.proofs.Written.{text-then, fits-inside}
 use Rattle.writing.proofs.Decimal.{number-length}
-use Rattle.record.specs.Follow.{fileNumber, bit, longestRecord, File, theSheet, theRecord, Answer, followRecord, answerOf, followWith, follow}
+use Rattle.recorded.specs.Follow.{fileNumber, bit, longestRecord, File, theSheet, theRecord, Answer, followRecord, answerOf, followWith, follow}
 use Rattle.record_main.specs.Line.{line, longestLine, printed, EnoughRead}
 
 -- ---- the five numbers, one behind the other

@@ -6,7 +6,7 @@ use lib.ListN.{take}
 use Rattle.rules.specs.Constants.{longestSheet}
 use Rattle.rules.specs.Format.{Bytes}
 use Rattle.rules.specs.Product.{bytes, decimal}
-use Rattle.record.specs.Follow.{longestRecord, Answer, follow, fileNumber, bit}
+use Rattle.recorded.specs.Follow.{longestRecord, Answer, follow, fileNumber, bit}
 
 -- "number file place finished tick", with a newline at the end
 unfoldable pub line : Answer → Bytes

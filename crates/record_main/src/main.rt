@@ -17,7 +17,7 @@ ghost use mathlib.Core.Path.{_≡_};
 ghost use Prim.Native.Nat.{_+_, _≤_};
 ghost use lib.ListN.{length};
 ghost use Rattle.writing.specs.Out.{Writes};
-ghost use Rattle.record.specs.Follow.{longestRecord};
+ghost use Rattle.recorded.specs.Follow.{longestRecord};
 ghost use Rattle.record.specs.Shape.{followedOf};
 ghost use Rattle.record_main.specs.Line.{longestLine, line, printed};
 

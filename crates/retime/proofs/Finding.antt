@@ -1,23 +1,40 @@
 -- A statement found by its thread and its number is the program's statement, or there is none.
 use mathlib.Core.Path.{_≡_, refl, sym, ap, _∙_}
 use mathlib.Core.Bool.{Bool, true, false}
+use mathlib.Core.List.{_++_}
 use Prim.Native.Nat.{ℕ, _+_, _*_, _≤_, _<_}
 use native.Mathlib.Omega.{arith}
 use borrow.Author.Tests.{lt-ltb, le-ltb}
 use lib.Dec.{T}
 use lib.ListN.{length, getD}
+use lib.Seq.{getD-append-add}
 use Rattle.rules.specs.Base.{if_then_else_}
 use Rattle.rules.specs.Constants.{mostThreads, mostStatements}
 use Rattle.rules.specs.Program.{Statement, Program}
-use Rattle.rules.specs.Format.{Bytes, AreBytes, got, readSheet}
+use Rattle.rules.specs.Format.{Bytes, AreBytes, byte, got, readSheet}
+use Rattle.rules.specs.Encoding.{codeOf, encodeStatement, encode}
+use Rattle.rules.proofs.Encoding.{reads-written}
 use Rattle.reader.specs.Facts.{threadIn, statementIn}
 use Rattle.reader.specs.declared.Index.{Index}
 use Rattle.reader.specs.Index.{noEntry, indexOf}
 use Rattle.reader.proofs.Facts.{accepted, program-facts, thread-in, statement-in, index-facts, place-head}
+use Rattle.retimed.specs.Retime.{isStatement}
+use Rattle.retimed.proofs.Edit.{before, behind, edited-bytes, edited-same, place-is}
 use Rattle.retime.specs.declared.find.Found.{Found}
-use Rattle.retime.specs.Retime.{isStatement}
 use Rattle.retime.specs.Shape.{noneFound, foundOf, foundAt, foundIn, Finds}
-use Rattle.retime.proofs.Retime.{code-at}
+
+-- ---- by its bytes
+
+-- the code of a statement stands behind its times
+module _ (s : Bytes) (o : AreBytes s) (g : Program) (e t k : ℕ) (r : readSheet s ≡ got g e) (h : t < length (g .threads)) (i : k < length (threadIn g t .statements)) where
+  code-at : byte s (statementIn g t k .place + 7) ≡ codeOf (statementIn g t k .action)
+  unfolding encodeStatement
+  code-at =
+      let w = reads-written s o g e r .0 in
+      let x = statementIn g t k in
+      let bytes : s ≡ before g t k ++ (encodeStatement x ++ behind g t k) = sym (w .written) ∙ sym (ap encode (edited-same g t k h i)) ∙ edited-bytes g t k h i x in
+      let there : x .place ≡ length (before g t k) = place-is g t k h i (w .places) in
+      (λ j. byte (bytes j) (there j + 7)) ∙ getD-append-add (before g t k) (encodeStatement x ++ behind g t k) 7 0
 
 -- ---- by the index
 

@@ -1,38 +1,17 @@
--- The five numbers of a preview, case by case.
+-- The five numbers of a preview by what the code gives.
 use mathlib.Core.Path.{_≡_, sym, ap, _∙_}
-use Prim.Native.Nat.{ℕ, _≤_, _<_}
-use borrow.Author.Tests.{lt-leb}
-use lib.Dec.{leb, le→leb}
-use lib.ListN.{length}
+use Prim.Native.Nat.{ℕ}
 use Rattle.rules.specs.Refusal as R
-use Rattle.rules.specs.Refusal.{number, outputFull}
-use Rattle.rules.specs.Program.{Program}
-use Rattle.rules.specs.Format.{Bytes, Got, bad, got, readSheet}
+use Rattle.rules.specs.Refusal.{number}
+use Rattle.rules.specs.Format.{Bytes, Got, bad, got}
 use Rattle.rules.specs.Search as S
 use Rattle.rules.specs.Search.{five, answer}
 use Rattle.rules.proofs.Refusal.{positive}
-use Rattle.rules.proofs.IfAt.{need-yes, need-no, then-got, then-bad}
 use Rattle.label.specs.declared.Answer.{Answer}
 use Rattle.label.specs.Shape.{answerOf, fiveOf}
+use Rattle.retimed.specs.Retime.{Done, Changed, changeTimes, changed, change, checked}
 use Rattle.retime.specs.declared.change.Changed as C
-use Rattle.retime.specs.Retime.{Done, Changed, changeTimes, changed, change, checked, previewAnswer}
 use Rattle.retime.specs.Shape.{changedOf}
-
--- ---- the rule, case by case
-
-module _ (s : Bytes) (m n t k l h : ℕ) where
-  pub preview-unread : {r : R.Refusal} {p : ℕ} → readSheet s ≡ bad r p → previewAnswer s m n t k l h ≡ five (number r) p 0 0 0
-  unfolding previewAnswer checked
-  preview-unread e = ap (checked n) (then-bad _ e)
-
-  module _ (g : Program) (e : ℕ) (r : readSheet s ≡ got g e) where
-    pub preview-full : m < length s → previewAnswer s m n t k l h ≡ five (number outputFull) 0 0 0 0
-    unfolding previewAnswer checked
-    preview-full c = ap (checked n) (then-got _ r ∙ need-no (leb (length s) m) outputFull 0 (changeTimes s t k l h) (lt-leb (length s) m c))
-
-    pub preview-room : length s ≤ m → previewAnswer s m n t k l h ≡ checked n (changeTimes s t k l h)
-    unfolding previewAnswer
-    preview-room c = ap (checked n) (then-got _ r ∙ need-yes (leb (length s) m) outputFull 0 (changeTimes s t k l h) (le→leb (length s) m c))
 
 -- a number of the code's, at a place, is the rule's
 pub as-refused : (q : R.Refusal) {a : Answer} {j p : ℕ} {x : S.Answer} → x ≡ five (number q) p 0 0 0 → j ≡ number q → a ≡ fiveOf j p 0 0 0 → answerOf a ≡ x

@@ -8,15 +8,15 @@ use Rattle.rules.specs.Refusal.{number, offRange, changedSince}
 use Rattle.rules.specs.Format.{Bytes, bad}
 use Rattle.rules.proofs.IfAt.{is-true}
 use Rattle.reader.specs.Facts.{statementIn}
+use Rattle.retimed.specs.Retime.{retimed, mayHave, Change}
+use Rattle.retimed.specs.TakeBack.{sameTimes, shows, takeBackTimes, takeBack}
+use Rattle.retimed.specs.TakeBackClaims.{restored}
+use Rattle.retimed.proofs.TakeBack.{back-off, back-since, back-made, taken-refused, taken-made}
 use Rattle.retime.specs.declared.find.Found.{Found}
 use Rattle.retime.specs.declared.back.TakenBack as B
-use Rattle.retime.specs.Retime.{retimed, mayHave, Change}
-use Rattle.retime.specs.TakeBack.{sameTimes, shows, takeBackTimes, takeBack}
-use Rattle.retime.specs.TakeBackClaims.{restored}
 use Rattle.retime.specs.Shape.{mayBy, takenAs, takenOf}
 use Rattle.retime.proofs.Finding.{FoundThere}
 use Rattle.retime.proofs.Changing.{may-of, place-of}
-use Rattle.retime.proofs.TakeBack.{back-off, back-since, back-made, taken-refused, taken-made}
 
 module _ (s : Bytes) (c : Change) where
   -- refused: the number and its place, and the sheet as it was

@@ -1,8 +1,2 @@
--- New times and their taking back: the rule, worked rows and claims of each, and what the code finds and gives back in these terms.
-pub mod Retime
-pub mod Worked
-pub mod Claims
-pub mod TakeBack
-pub mod TakeBackWorked
-pub mod TakeBackClaims
+-- What the code finds, and what the calls give back, in terms of the definitions of `retimed`.
 pub mod Shape

@@ -11,12 +11,12 @@ use Rattle.rules.specs.Program.{Statement, Program}
 use Rattle.rules.specs.Format.{Bytes, byte, num16, got, timesFit, readSheet}
 use Rattle.rules.specs.Encoding.{codeOf}
 use Rattle.reader.specs.Facts.{statementIn}
+use Rattle.retimed.specs.Retime.{isStatement, Change, Changed, Previewed}
+use Rattle.retimed.specs.TakeBack.{TakenBack}
 use Rattle.retime.specs.declared.find.Found.{Found}
 use Rattle.retime.specs.declared.change.Change as D
 use Rattle.retime.specs.declared.change.Changed as C
 use Rattle.retime.specs.declared.back.TakenBack as B
-use Rattle.retime.specs.Retime.{isStatement, Change, Changed, Previewed}
-use Rattle.retime.specs.TakeBack.{TakenBack}
 
 -- ---- a statement by its thread and its number
 

@@ -11,8 +11,8 @@ use refusal::number_of;
 ghost use mathlib.Core.Path.{_≡_};
 ghost use Rattle.rules.specs.Format.{readSheet};
 ghost use Rattle.reader.specs.Index.{indexOf};
-ghost use Rattle.retime.specs.TakeBack.{sameTimes, takeBack};
-ghost use Rattle.retime.specs.TakeBackClaims.{AllComeBack};
+ghost use Rattle.retimed.specs.TakeBack.{sameTimes, takeBack};
+ghost use Rattle.retimed.specs.TakeBackClaims.{AllComeBack};
 ghost use Rattle.retime.specs.Shape.{changeOf, takenAs, takenOf};
 
 // Refusal 0 at place 0: the old times stand in the sheet again. Any other: the sheet is as it was.

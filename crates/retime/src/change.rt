@@ -10,9 +10,9 @@ use refusal::number_of;
 ghost use mathlib.Core.Path.{_≡_};
 ghost use Rattle.rules.specs.Format.{readSheet};
 ghost use Rattle.reader.specs.Index.{indexOf};
-ghost use Rattle.retime.specs.Retime.{fromTo, noChange, change};
-ghost use Rattle.retime.specs.Claims.{ReadsRetimed};
-ghost use Rattle.retime.specs.TakeBackClaims.{ComesBack};
+ghost use Rattle.retimed.specs.Retime.{fromTo, noChange, change};
+ghost use Rattle.retimed.specs.Claims.{ReadsRetimed};
+ghost use Rattle.retimed.specs.TakeBackClaims.{ComesBack};
 ghost use Rattle.retime.specs.Shape.{changedAs, changedOf};
 
 // What a change did: the statement by its thread and its number in it, its times before and after.

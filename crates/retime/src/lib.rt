@@ -3,10 +3,10 @@ use label::put_answer;
 ghost use mathlib.Core.Path.{_≡_};
 ghost use Rattle.label.specs.Shape.{FiveIn};
 ghost use Rattle.rules.specs.Base.{atFront};
-ghost use Rattle.retime.specs.Retime as Rule;
-ghost use Rattle.retime.specs.TakeBack as Back;
-ghost use Rattle.retime.specs.Claims.{ReadsRetimed, HoldsRetimed};
-ghost use Rattle.retime.specs.TakeBackClaims.{ComesBack, AllComeBack};
+ghost use Rattle.retimed.specs.Retime as Rule;
+ghost use Rattle.retimed.specs.TakeBack as Back;
+ghost use Rattle.retimed.specs.Claims.{ReadsRetimed, HoldsRetimed};
+ghost use Rattle.retimed.specs.TakeBackClaims.{ComesBack, AllComeBack};
 ghost use Rattle.retime.specs.Shape.{changeOf, eight, EightIn, TwoIn, Leaves};
 
 mod times; // which times a statement may have, and the four bytes that hold them

@@ -15,8 +15,8 @@ ghost use lib.ListN.{length};
 ghost use Rattle.rules.specs.Format.{readSheet};
 ghost use Rattle.reader.specs.Index.{indexOf};
 ghost use Rattle.label.specs.Shape.{answerOf};
-ghost use Rattle.retime.specs.Retime.{changeTimes, checked, previewAnswer, preview};
-ghost use Rattle.retime.specs.Claims.{HoldsRetimed};
+ghost use Rattle.retimed.specs.Retime.{changeTimes, checked, previewAnswer, preview};
+ghost use Rattle.retimed.specs.Claims.{HoldsRetimed};
 ghost use Rattle.retime.specs.Shape.{Leaves};
 
 // The check of a changed copy, for which there is just room.

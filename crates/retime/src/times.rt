@@ -1,10 +1,10 @@
 // Which times a statement may have, and the four bytes that hold them.
-use reader::Time;
-use reader::times_fit;
+use field::Time;
+use field::times_fit;
 ghost use mathlib.Core.Path.{_≡_};
 ghost use Prim.Native.Nat.{_+_, _/_, _%_, _≤_, _<_};
 ghost use lib.ListN.{length};
-ghost use Rattle.retime.specs.Retime.{retimed};
+ghost use Rattle.retimed.specs.Retime.{retimed};
 ghost use Rattle.retime.specs.Shape.{mayBy};
 
 const GREATEST_TIME: u64 = 65535;

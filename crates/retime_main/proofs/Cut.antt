@@ -16,10 +16,10 @@ use Rattle.reader.specs.Facts.{statementIn}
 use Rattle.reader.proofs.Facts.{program-facts, thread-in}
 use Rattle.digits.specs.Digits.{top, cut}
 use Rattle.digits.proofs.Laws.{cut-small, cut-large}
-use Rattle.retime.specs.Retime.{retimed, isStatement, mayHave, onStatement, Change, did, changeTimes}
-use Rattle.retime.specs.TakeBack.{shows, takeBackTimes}
-use Rattle.retime.proofs.Retime.{thread-there, statement-there, may-times, may-small}
-use Rattle.retime.proofs.Made.{own-times}
+use Rattle.retimed.specs.Retime.{retimed, isStatement, mayHave, onStatement, Change, did, changeTimes}
+use Rattle.retimed.specs.TakeBack.{shows, takeBackTimes}
+use Rattle.retimed.proofs.Retime.{thread-there, statement-there, may-times, may-small}
+use Rattle.retimed.proofs.Made.{own-times}
 use Rattle.retime_main.specs.Words.{cutChange}
 
 -- what is the same from the cut on is the same of a number that is cut

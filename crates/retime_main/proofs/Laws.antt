@@ -21,8 +21,8 @@ use Rattle.reader.proofs.Facts.{program-facts}
 use Rattle.writing.specs.Out.{longestFive, outOf, write, Writes, lineOf}
 use Rattle.writing.proofs.Written.{then-writes, fits-inside}
 use Rattle.writing.proofs.Line.{line-length}
-use Rattle.retime.specs.Retime.{Change, noChange, Done, onStatement, changeTimes, changed, change, checked, previewAnswer, preview}
-use Rattle.retime.specs.TakeBack.{takenBack, takeBack}
+use Rattle.retimed.specs.Retime.{Change, noChange, Done, onStatement, changeTimes, changed, change, checked, previewAnswer, preview}
+use Rattle.retimed.specs.TakeBack.{takenBack, takeBack}
 use Rattle.retime_main.specs.Line.{printed, longestPrinted, sheetText, longestWritten, changeText, written, backText, writtenBack, EnoughRead, CutUnseen, CopyEnough}
 use Rattle.retime_main.proofs.Cut.{change-cut, back-cut}
 

@@ -11,8 +11,8 @@ use Rattle.rules.specs.Search.{answer}
 use Rattle.rules.specs.Product.{line}
 use Rattle.digits.specs.Digits.{cut}
 use Rattle.writing.specs.Out.{lineOf}
-use Rattle.retime.specs.Retime.{Change, Changed, changeTimes, change, checked, previewAnswer}
-use Rattle.retime.specs.TakeBack.{TakenBack, takeBack}
+use Rattle.retimed.specs.Retime.{Change, Changed, changeTimes, change, checked, previewAnswer}
+use Rattle.retimed.specs.TakeBack.{TakenBack, takeBack}
 use Rattle.retime.specs.Shape.{eight}
 use Rattle.retime_main.specs.Words.{cutChange}
 

@@ -7,7 +7,7 @@ use Rattle.rules.specs.Product.{bytes, decimal}
 use Rattle.digits.specs.declared.Number.{Number}
 use Rattle.digits.specs.declared.Number.the-variants as N
 use Rattle.digits.specs.Digits.{cut, numberIn}
-use Rattle.retime.specs.Retime.{Change, fromTo}
+use Rattle.retimed.specs.Retime.{Change, fromTo}
 use Rattle.retime.specs.Shape.{changeIn}
 use Rattle.retime_main.specs.declared.asked.Given.{Given}
 use Rattle.retime_main.specs.declared.asked.Given.the-variants.{Asks, Wrong}

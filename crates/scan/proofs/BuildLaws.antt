@@ -1,17 +1,19 @@
--- Laws of what is read and written: bytes one behind the other, a byte before them, and results by their cases.
-use mathlib.Core.Path.{_≡_, sym, ap, subst, _∙_}
-use mathlib.Core.Bool.{Bool, true, _&&_}
+-- Laws of what is read and written: bytes one behind the other, codes before them, and results by their cases.
+use mathlib.Core.Path.{_≡_, refl, sym, ap, subst, _∙_}
+use mathlib.Core.Bool.{Bool, true, false, _&&_}
 use mathlib.Core.List.{[], _∷_, _++_, append-assoc}
 use Prim.Native.Nat.{ℕ, suc, _+_, _-_, _≤_, _<_, min}
 use native.Mathlib.Nat.{le-refl}
 use native.Mathlib.Omega.{arith}
-use lib.ListN.{length, take, drop, set, length-append}
+use lib.Dec.{T, ltb, ltb→lt}
+use lib.ListN.{length, take, drop, set, length-append, length-set}
 use lib.Seq.{sets, sets-eq, take-at, drop-at, drop-drop, length-take-le}
+use Rattle.rules.specs.Base.{if_then_else_}
 use Rattle.rules.specs.Format.{Bytes}
 use Rattle.rules.proofs.Base.{and-left, and-right}
 use Rattle.text.specs.Words.{Read, stop, mapRead}
-use Rattle.scan.proofs.WriteLaws.{sets-append}
-use Rattle.scan.specs.Writing.{Wrote, Form, Made, Begun, Builds, builtPlace, builtEnd, OnwardBuilt, Inserted}
+use Rattle.scan.proofs.WriteLaws.{sets-append, length-codes, inserted-room, codes-more}
+use Rattle.scan.specs.Writing.{Wrote, Form, Made, Begun, Builds, builtPlace, builtEnd, OnwardBuilt, inserted, lastFirst, Keeps}
 use Rattle.scan.specs.declared.step.Built.{Built}
 use Rattle.scan.specs.declared.step.Built.the-variants as built
 
@@ -33,11 +35,12 @@ wrote-append o m after at e k x y f g l s u v =
           q ∙ ap (λ z. sets z e y) p ∙ ap (λ z. sets (sets o at x) z y) d ∙ sets-append o at x y;
     }
 
--- a byte put before what was written
-pub wrote-insert : (o m after : Bytes) (at e k b : ℕ) (x : Bytes) (f : Bool) → length o ≡ length m → length m < 65536 → Wrote o at x f m e
-    → Inserted m at e b after → k ≡ min (e + 1) 65536 → Wrote o at (b ∷ x) f after k
-wrote-insert o m after at e k b x f l s u w j =
+-- bytes put before what was written
+pub wrote-insert : (o m after : Bytes) (at e k : ℕ) (bs x : Bytes) (f : Bool) → length o ≡ length m → length m < 65536 → Wrote o at x f m e
+    → after ≡ inserted m at e bs → k ≡ min (e + length bs) 65536 → Wrote o at (bs ++ x) f after k
+wrote-insert o m after at e k bs x f l s u w j =
     let i = u .end-is in
+    let n : length (bs ++ x) ≡ length bs + length x = length-append bs x in
     record {
       end-is = omega arith;
       bytes-are = λ t r.
@@ -53,17 +56,89 @@ wrote-insert o m after at e k b x f l s u w j =
           let t₂ : drop at m ≡ x ++ K = ap (drop at) p″ ∙ drop-at X (x ++ K) at lx in
           let t₃ : take (e - at) (drop at m) ≡ x = ap (take (e - at)) t₂ ∙ take-at x K (e - at) (omega arith) in
           let t₄ : drop e m ≡ K = ap (drop e) p′ ∙ drop-at (X ++ x) K e ly in
-          let t₅ : drop (e + 1) m ≡ drop (at + suc (length x)) o =
-          sym (drop-drop 1 e m) ∙ ap (drop 1) t₄ ∙ drop-drop 1 (at + length x) o ∙ ap (λ z. drop z o) (plus-one at (length x)) in
-          w (omega arith)
-          ∙ ap (λ z. z ++ (b ∷ (take (e - at) (drop at m) ++ drop (e + 1) m))) t₁
-          ∙ ap (λ z. X ++ (b ∷ (z ++ drop (e + 1) m))) t₃
-          ∙ ap (λ z. X ++ (b ∷ (x ++ z))) t₅
-          ∙ sym (sets-eq (b ∷ x) o at r ∙ append-assoc X (b ∷ x) (drop (at + suc (length x)) o));
+          let z : at + length x + length bs ≡ at + length (bs ++ x) = omega arith in
+          let t₅ : drop (e + length bs) m ≡ drop (at + length (bs ++ x)) o =
+          sym (drop-drop (length bs) e m) ∙ ap (drop (length bs)) t₄ ∙ drop-drop (length bs) (at + length x) o
+          ∙ ap (λ y. drop y o) z in
+          w ∙ inserted-room m at e bs (omega arith)
+          ∙ ap (λ z. z ++ (bs ++ (take (e - at) (drop at m) ++ drop (e + length bs) m))) t₁
+          ∙ ap (λ z. X ++ (bs ++ (z ++ drop (e + length bs) m))) t₃
+          ∙ ap (λ z. X ++ (bs ++ (x ++ z))) t₅
+          ∙ ap (λ z. X ++ z) (sym (append-assoc bs x (drop (at + length (bs ++ x)) o)))
+          ∙ sym (sets-eq (bs ++ x) o at r ∙ append-assoc X (bs ++ x) (drop (at + length (bs ++ x)) o));
     }
-  where
-    plus-one : (a n : ℕ) → a + n + 1 ≡ a + suc n
-    plus-one a n = omega arith
+
+-- ---- codes that go before what is written
+
+-- of what is to be written these codes are not yet: they go before all that is
+pub record Pending (out : Bytes) (at : ℕ) (enc : Bytes) (fit : Bool) (now : Bytes) (end : ℕ) (codes : Bytes) (k : ℕ) : Type 0 where
+  pub rest : Bytes
+  pub is : enc ≡ lastFirst codes k ++ rest
+  pub wrote : Wrote out at rest fit now end
+
+-- none is kept
+pub pending-none : {o now : Bytes} {at e : ℕ} {x : Bytes} {f : Bool} (codes : Bytes) → Wrote o at x f now e → Pending o at x f now e codes 0
+pending-none {x = x} codes w = record { rest = x; is = refl; wrote = w }
+
+-- something is written behind
+pub pending-append : (o m after : Bytes) (at e k : ℕ) (x y : Bytes) (f g : Bool) (codes : Bytes) (n : ℕ) → length o ≡ length m → length m < 65536
+    → Pending o at x f m e codes n → Wrote m e y g after k → Pending o at (x ++ y) (f && g) after k codes n
+pending-append o m after at e k x y f g codes n l s p w = record {
+  rest = p .rest ++ y;
+  is = ap (λ z. z ++ y) (p .is) ∙ append-assoc (lastFirst codes n) (p .rest) y;
+  wrote = wrote-append o m after at e k (p .rest) y f g l s (p .wrote) w;
+}
+
+-- those that are kept are put before it
+pub pending-insert : {o m after : Bytes} {at e k : ℕ} {x : Bytes} {f : Bool} {codes : Bytes} {n : ℕ} → length o ≡ length m → length m < 65536
+    → Pending o at x f m e codes n → after ≡ inserted m at e (lastFirst codes n) → k ≡ min (e + n) 65536 → Wrote o at x f after k
+pending-insert {o} {m} {after} {at} {e} {k} {x} {f} {codes} {n} l s p w j =
+    let c = length-codes codes n in
+    subst (λ z. Wrote o at z f after k) (sym (p .is))
+    (wrote-insert o m after at e k (lastFirst codes n) (p .rest) f l s (p .wrote) w (j ∙ ap (λ z. min (e + z) 65536) (sym c)))
+
+-- one more is kept
+pending-more : {o m : Bytes} {at e : ℕ} {x : Bytes} {f : Bool} {codes : Bytes} {n c : ℕ} → n < length codes
+    → Pending o at x f m e codes n → Pending o at (c ∷ x) f m e (set codes n c) (n + 1)
+pending-more {o} {m} {at} {e} {x} {f} {codes} {n} {c} l p =
+    let z : n + 1 ≡ suc n = omega arith in
+    subst (Pending o at (c ∷ x) f m e (set codes n c)) (sym z)
+    (record { rest = p .rest; is = ap (λ y. c ∷ y) (p .is) ∙ ap (λ y. y ++ p .rest) (sym (codes-more codes n c l)); wrote = p .wrote })
+
+-- what keeping one code more leaves: it goes before all that is written
+pub record KeepsPending (m : Bytes) (at end : ℕ) (codes : Bytes) (k c : ℕ) (after : Bytes) (end′ : ℕ) (codes′ : Bytes) (k′ : ℕ) : Type 0 where
+  pub pending : (o x : Bytes) (f : Bool) → length o ≡ length m → length m < 65536 → Pending o at x f m end codes k
+      → Pending o at (c ∷ x) f after end′ codes′ k′
+  pub few : k′ ≤ length codes′
+  pub from : end ≤ end′
+  pub top : end′ ≤ 65536
+
+module _ {m : Bytes} {at e : ℕ} {codes : Bytes} {k c : ℕ} (some : 0 < length codes) (bound : e ≤ 65536) where
+  -- by whether there is room for it beside the others
+  kept-by : (room : Bool) → (room ≡ true → k < length codes)
+      → KeepsPending m at e codes k c (if room then m else inserted m at e (lastFirst codes k)) (if room then e else min (e + k) 65536)
+      (set codes (if room then k else 0) c) (if room then k + 1 else 1)
+  kept-by true h = record {
+    pending = λ o x f r s p. pending-more (h refl) p;
+    few = let l = h refl in let n = length-set codes k c in omega arith;
+    from = le-refl e;
+    top = bound;
+  }
+  kept-by false h = record {
+    pending = λ o x f r s p. pending-more some (pending-none codes (pending-insert r s p refl refl));
+    few = let n = length-set codes 0 c in omega arith;
+    from = omega arith;
+    top = omega arith;
+  }
+
+  pub kept-pending : {after codes′ : Bytes} {end′ k′ : ℕ} → Keeps m at e codes k c after end′ codes′ k′ → KeepsPending m at e codes k c after end′ codes′ k′
+  kept-pending u =
+      let a = kept-by (ltb k (length codes)) (λ t. ltb→lt k (length codes) (subst T (sym t) tt)) in
+      let b = u .bytes-are in
+      let d = u .end-is in
+      let f = u .codes-are in
+      let g = u .count-is in
+      rw (b, d, f, g) a
 
 -- one byte put at the end
 pub wrote-put : (o after : Bytes) (at k b : ℕ) → after ≡ set o at b → k ≡ min (at + 1) 65536 → Wrote o at (b ∷ []) true after k

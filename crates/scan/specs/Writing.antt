@@ -1,11 +1,12 @@
 -- What a reader gives that writes what it reads, as the rules' own reading and the bytes of what it read.
 use mathlib.Core.Path.{_≡_}
 use mathlib.Core.Bool.{Bool}
-use mathlib.Core.List.{_∷_, _++_}
-use Prim.Native.Nat.{ℕ, _+_, _-_, _≤_, _<_, min}
-use lib.Dec.{T}
-use lib.ListN.{length, take, drop}
+use mathlib.Core.List.{[], _∷_, _++_}
+use Prim.Native.Nat.{ℕ, zero, suc, _+_, _-_, _≤_, _<_, min}
+use lib.Dec.{T, ltb}
+use lib.ListN.{length, take, drop, getD, set}
 use lib.Seq.{sets}
+use Rattle.rules.specs.Base.{if_then_else_}
 use Rattle.rules.specs.Format.{Bytes}
 use Rattle.text.specs.Words.{Read, stop, took}
 use Rattle.scan.specs.declared.step.Built.{Built}
@@ -56,6 +57,28 @@ pub record Begun {A : Type 0} (F : Form A) (out : Bytes) (at : ℕ) (now : Bytes
   pub wrote : Wrote out at (F .bytes a) fit now end
   pub room : length out ≡ length now
 
--- what stood from at to end has moved on by one byte, and b stands before it
-abbrev pub Inserted : Bytes → ℕ → ℕ → ℕ → Bytes → Type 0
-Inserted m at end b after = end < length m → after ≡ take at m ++ (b ∷ (take (end - at) (drop at m) ++ drop (end + 1) m))
+-- ---- codes that go before what is written
+
+-- what stood from i to end has moved on by k; what stands in the k bytes before it is left open
+pub record Shifted (m : Bytes) (end k i : ℕ) (after : Bytes) : Type 0 where
+  pub gap : Bytes
+  pub long : length gap ≡ k
+  pub is : after ≡ take i m ++ (gap ++ (take (end - i) (drop i m) ++ drop (end + k) m))
+
+-- bs is put before what stands from at to end, which moves on; where there is no room for that, nothing changes
+abbrev pub inserted : Bytes → ℕ → ℕ → Bytes → Bytes
+inserted m at end bs =
+    if ltb (length m) (end + length bs) then m else take at m ++ (bs ++ (take (end - at) (drop at m) ++ drop (end + length bs) m))
+
+-- the first k codes, reversed
+abbrev pub lastFirst : Bytes → ℕ → Bytes
+lastFirst codes zero = []
+lastFirst codes (suc k) = getD codes k 0 ∷ lastFirst codes k
+
+-- one code more, c, is kept behind the k that are; where these fill the room for them, they are put before what stands from at to end,
+-- and c is the first of the next
+pub record Keeps (m : Bytes) (at end : ℕ) (codes : Bytes) (k c : ℕ) (after : Bytes) (end′ : ℕ) (codes′ : Bytes) (k′ : ℕ) : Type 0 where
+  pub bytes-are : after ≡ (if ltb k (length codes) then m else inserted m at end (lastFirst codes k))
+  pub end-is : end′ ≡ (if ltb k (length codes) then end else min (end + k) 65536)
+  pub codes-are : codes′ ≡ set codes (if ltb k (length codes) then k else 0) c
+  pub count-is : k′ ≡ (if ltb k (length codes) then k + 1 else 1)

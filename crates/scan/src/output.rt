@@ -2,10 +2,10 @@
 ghost use mathlib.Core.Path.{_≡_};
 ghost use mathlib.Core.List.{_∷_};
 ghost use Prim.Native.Nat.{_+_, _≤_, _<_, min};
-ghost use lib.ListN.{set};
+ghost use lib.ListN.{length, set};
 ghost use lib.Seq.{sets};
 ghost use Rattle.rules.specs.Encoding.{two, four};
-ghost use Rattle.scan.specs.Writing.{Inserted};
+ghost use Rattle.scan.specs.Writing.{Shifted, inserted, lastFirst, Keeps};
 
 // A place past every output's end.
 const FAR: usize = 65536;
@@ -66,18 +66,76 @@ pub fn put_constant(out: &mut [u8], at: usize, v: u64)
     put_four(out, at + 1, v);
 }
 
-// What stands from at to end moves on by one, and a byte is put before it.
-pub fn insert(out: &mut [u8], at: usize, end: usize, b: u8)
-    requires { ⌜ at ≤ end ⌝ }
-    ensures { λ _. ⌜ Inserted (now (out .entry)) at end b (now (out .exit)) ⌝ }
+// What stands from at to end moves on by k.
+fn shift(out: &mut [u8], at: usize, end: usize, k: usize)
+    requires { ⌜ (at ≤ end) × (end + k ≤ length (now out)) ⌝ }
+    ensures { λ _. ⌜ Shifted (now (out .entry)) end k at (now (out .exit)) ⌝ }
 {
-    if out.len() <= end {
-        return;
-    }
     let mut i = end;
     while at < i {
-        out[i] = out[i - 1];
         i -= 1;
+        out[i + k] = out[i];
     }
-    out[at] = b;
+}
+
+// The first so many codes, at a place, the last of them first.
+fn put_codes(out: &mut [u8], at: usize, codes: &[u8], count: usize)
+    requires { ⌜ (at + count ≤ length (now out)) × (count ≤ length (now codes)) ⌝ }
+    ensures { λ _. ⌜ now (out .exit) ≡ sets (now (out .entry)) at (lastFirst (now (codes .entry)) count) ⌝ }
+{
+    let mut i = at;
+    let mut n = count;
+    while 0 < n {
+        n -= 1;
+        out[i] = codes[n];
+        i += 1;
+    }
+}
+
+// The first so many codes are put before what stands from at to end, the last of them first, if there is room; where what is written
+// ends then.
+pub fn insert(out: &mut [u8], at: usize, end: usize, codes: &[u8], count: usize) -> usize
+    requires { ⌜ (at ≤ end) × (end ≤ 65536) × (count ≤ length (now codes)) × (count ≤ 65536) ⌝ }
+    ensures { λ r. ⌜ (now (out .exit) ≡ inserted (now (out .entry)) at end (lastFirst (now (codes .entry)) count)) × (r ≡ min (end + count) 65536) ⌝ }
+{
+    let after = past(end, count);
+    if out.len() < end + count {
+        return after;
+    }
+    if count == 0 {
+        return after;
+    }
+    shift(out, at, end, count);
+    put_codes(out, at, codes, count);
+    after
+}
+
+// The most codes that are kept beside what is written: it is moved once for so many, and once for the last ones.
+pub const MOST_KEPT: usize = 32;
+
+// How many codes are kept, and the end of what is written.
+pub struct Kept {
+    pub end: usize,
+    pub count: usize,
+}
+
+// One code more that goes before what stands from at to end is kept behind the others; where these fill the room for them, they are put
+// there first.
+pub fn keep(out: &mut [u8], at: usize, end: usize, codes: &mut [u8], count: usize, c: u8) -> Kept
+    requires { ⌜ (at ≤ end) × (end ≤ 65536) × (count ≤ length (now codes)) × (0 < length (now codes)) × (length (now codes) ≤ 65536) ⌝ }
+    ensures { λ r. ⌜ Keeps (now (out .entry)) at end (now (codes .entry)) count c (now (out .exit)) (r .end) (now (codes .exit)) (r .count) ⌝ }
+{
+    if count < codes.len() {
+        codes[count] = c;
+        return Kept {
+            end: end,
+            count: count + 1,
+        };
+    }
+    let after = insert(out, at, end, codes, count);
+    codes[0] = c;
+    Kept {
+        end: after,
+        count: 1,
+    }
 }

@@ -46,7 +46,7 @@ pub fn spaces_end(s: &[u8], p: usize) -> usize
 }
 
 // Behind a word of letters or digits no letter or digit stands.
-pub fn apart_at(s: &[u8], v: u64, p: usize) -> Step
+pub(crate) fn apart_at(s: &[u8], v: u64, p: usize) -> Step
     requires { ⌜ p ≤ length (now s) ⌝ }
     ensures { λ r. ⌜ (readOf same (now (s .entry)) r ≡ apart v (drop p (now (s .entry)))) × (OnwardStep (now (s .entry)) p r) ⌝ }
 {
@@ -179,7 +179,7 @@ pub fn negated(x: Step) -> Step
 }
 
 // One word, right here.
-pub fn word_at(s: &[u8], p: usize, w: &[u8]) -> Step
+pub(crate) fn word_at(s: &[u8], p: usize, w: &[u8]) -> Step
     requires { ⌜ (p ≤ length (now s)) × (0 < length (now w)) ⌝ }
     ensures { λ r. ⌜ (readOf unit (now (s .entry)) r ≡ wordHere (now (w .entry)) (drop p (now (s .entry)))) × (OnwardStep (now (s .entry)) p r) ⌝ }
 {

@@ -19,18 +19,18 @@ use Rattle.state.specs.Access.{threadAt}
 use Rattle.state.specs.Shape.{Sizes, threadOf, sizesOf, stateOf}
 use Rattle.state.specs.declared.State.{State}
 use Rattle.state.proofs.Shape.{state-thread, state-threads-length, sizes-threads, sizes-regs}
-use Rattle.search.specs.Plan.{Planned}
-use Rattle.search.specs.Fetch.{namesOf, Fetches, OfProgram}
-use Rattle.search.proofs.fetch.Asks.{of-program}
+use Rattle.event.specs.Plan.{Planned}
+use Rattle.event.specs.Fetch.{namesOf, Fetches, OfProgram}
+use Rattle.event.proofs.fetch.Asks.{of-program}
+use Rattle.event.specs.Push.{Room}
+use Rattle.event.specs.Act.{Asks, Acts}
+use Rattle.event.specs.declared.plan.Plan.{Plan}
+use Rattle.event.specs.declared.act.Event.{Event}
+use Rattle.event.specs.declared.act.Acted.{Acted}
+use Rattle.event.specs.declared.fetch.Fetched.{Fetched}
 use Rattle.search.specs.Survey.{earliestOf, earliestAt}
-use Rattle.search.specs.Push.{Room}
-use Rattle.search.specs.Act.{Asks, Acts}
 use Rattle.search.specs.Turn.{liveAfter, Makes, heightOf, overOf, eventOf}
-use Rattle.search.specs.declared.plan.Plan.{Plan}
-use Rattle.search.specs.declared.act.Event.{Event}
-use Rattle.search.specs.declared.act.Acted.{Acted}
 use Rattle.search.specs.declared.turn.Made.{Made}
-use Rattle.search.specs.declared.fetch.Fetched.{Fetched}
 use Rattle.search.proofs.TurnLaws.{live-step, events-halted, events-passed, events-before, over-makes}
 
 -- the state s of the code, which has four threads, and thread t of the program
@@ -143,5 +143,5 @@ module _ (bs : Bytes) (g : Program) (p : Plan) (places : List ℕ) (r : Planned 
       subst (λ (w : Made). Makes z slots b h d w (events x latest to (liveAfter g x t))) (sym em) (subst (Makes z slots b h d (overOf later k (f .place))) (sym same) made)
 
 pub acts-length : (z : Sizes) (slots : ℕ) (b c : List ℤ) (h : ℕ) (k : Acted) (n : S.Next) → Acts z slots b c h k n → length c ≡ length b
-acts-length z slots b c h k (unread q) a = a .1
+acts-length z slots b c h k (unread q) a = ap length (a .1)
 acts-length z slots b c h k (states xs) a = a .2 .same-length

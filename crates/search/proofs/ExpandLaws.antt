@@ -10,10 +10,10 @@ use Rattle.rules.specs.Search as S
 use Rattle.rules.specs.Search.{Turn, refused, ended, follow, events, liveFrom}
 use Rattle.state.specs.Shape.{Sizes, sizesOf, stateOf}
 use Rattle.state.specs.declared.State.{State}
+use Rattle.event.proofs.PushLaws.{none-pushed}
 use Rattle.search.specs.Turn.{liveAfter, Makes, heightOf}
 use Rattle.search.specs.declared.turn.Made.{Made}
 use Rattle.search.specs.declared.turn.Made.the-variants.{Fault, Height}
-use Rattle.search.proofs.PushLaws.{none-pushed}
 use Rattle.search.proofs.TurnLaws.{makes-length}
 
 -- from the buffer b and the height h, the events of the threads from t on have made m, and the buffer c

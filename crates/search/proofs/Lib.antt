@@ -1,6 +1,4 @@
--- Laws of the search, from states on the stack up to the loop.
-pub mod PushLaws
-pub mod ActLaws
+-- Laws of the search, from the events of a turn up to the loop.
 pub mod TurnLaws
 pub mod EventLaws
 pub mod ExpandLaws

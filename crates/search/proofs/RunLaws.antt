@@ -25,8 +25,8 @@ use Rattle.state.proofs.Stack.{stack-length, push-states, top-states}
 use Rattle.search.specs.Turn.{Turns}
 use Rattle.search.specs.declared.turn.Turned.{Turned}
 use Rattle.search.specs.declared.turn.Turned.the-variants.{Refused, Ended, Height}
-use Rattle.reader.specs.declared.ticks.Time.{Time}
-use Rattle.reader.specs.Ticks.{tick}
+use Rattle.field.specs.declared.ticks.Time.{Time}
+use Rattle.field.specs.Ticks.{tick}
 
 -- the state x on the stack xs, with so much of the budget left after this step
 module _ (left : ℕ) (g : Program) (slots : ℕ) (x : S.State) (xs : List S.State) (w : Window) (n : ℕ) where

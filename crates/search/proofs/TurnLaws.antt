@@ -17,11 +17,11 @@ use Rattle.refusal.specs.Shape.{refusalOf}
 use Rattle.refusal.specs.declared.Refusal.{Refusal}
 use Rattle.reader.specs.Facts.{statementIn}
 use Rattle.state.specs.Shape.{Sizes}
-use Rattle.search.specs.Push.{Pushed}
-use Rattle.search.proofs.PushLaws.{then-pushed}
-use Rattle.search.specs.Act.{Acts}
+use Rattle.event.specs.Push.{Pushed}
+use Rattle.event.proofs.PushLaws.{then-pushed}
+use Rattle.event.specs.Act.{Acts}
+use Rattle.event.specs.declared.act.Acted.{Acted}
 use Rattle.search.specs.Turn.{liveAfter, Makes, heightOf, Turns, overOf, turnedOf}
-use Rattle.search.specs.declared.act.Acted.{Acted}
 use Rattle.search.specs.declared.turn.Made.{Made}
 use Rattle.search.specs.declared.turn.Made.the-variants.{Fault, Height}
 
@@ -101,7 +101,7 @@ module _ (z : Sizes) (slots : ℕ) (b c d : List ℤ) (h : ℕ) where
 pub over-makes : (z : Sizes) (slots : ℕ) (b c d : List ℤ) (h : ℕ) (m : Made) (t : Turn) (p : ℕ) (r : Acted) (n : Next) → Makes z slots b h c m t
     → Acts z slots c d (heightOf m h) r n → Makes z slots b h d (overOf m r p) (before p n t)
 over-makes z slots b c d h m t p r (unread q) k a =
-    subst (λ (x : Acted). Makes z slots b h d (overOf m x p) (before p (unread q) t)) (sym (a .0)) (fault-before z slots b c d h m t p q k (a .1))
+    subst (λ (x : Acted). Makes z slots b h d (overOf m x p) (before p (unread q) t)) (sym (a .0)) (fault-before z slots b c d h m t p q k (ap length (a .1)))
 over-makes z slots b c d h (Fault q o) t p r (states xs) k a =
     subst (λ (x : Acted). Makes z slots b h d (overOf (Fault q o) x p) (before p (states xs) t)) (sym (a .1)) (kept-before z slots b c d h (Fault q o) t p xs q o refl k (a .2 .same-length))
 over-makes z slots b c d h (Height j) t p r (states xs) k a =

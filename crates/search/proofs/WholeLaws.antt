@@ -11,29 +11,15 @@ use Rattle.rules.specs.Search as S
 use Rattle.rules.specs.Search.{End, fails, unseen, search, start, searchFrom}
 use Rattle.reader.specs.declared.Index.{Index}
 use Rattle.reader.specs.Index.{indexOf}
-use Rattle.reader.proofs.Facts.{accepted, rejected, program-facts, program-is, index-facts}
+use Rattle.reader.proofs.Facts.{accepted, rejected, program-is, index-facts}
 use Rattle.reader.specs.Facts.{programIn}
 use Rattle.state.specs.declared.State.{State}
 use Rattle.state.specs.Shape.{sizesOf, stateOf}
-use Rattle.search.specs.Plan.{Planned, Ready}
 use Rattle.search.specs.Whole.{unread, ended, endWith, searchOf}
 
 -- ---- a sheet that reads, and its index
 
 module _ (s : Bytes) (i : Index) (h : i ≡ indexOf (readSheet s)) (fine : i .refusal ≡ 0) where
-  pub ready : Ready s (record { threads = i .threads; limit = i .limit; entries = i .entries }) (i .places)
-  ready =
-      let a = accepted (readSheet s) h fine in
-      let f = index-facts (a .0) (a .1) h (a .2) in
-      subst (λ (g : Program). Planned s g (record { threads = i .threads; limit = i .limit; entries = i .entries }) (i .places)) (sym (program-is s (a .0) (a .1) (a .2)))
-      (record {
-        facts = program-facts s (a .0) (a .1) (a .2);
-        threads = f .threads;
-        limit = f .limit;
-        entries = f .entries;
-        places-are = f .places;
-      })
-
   pub from-first : {r : S.End} (slots : ℕ) (first : State) → ((g : Program) (e : ℕ) → readSheet s ≡ got g e → stateOf (sizesOf g) first ≡ start g)
       → r ≡ search (i .budget) (programIn s) slots (stateOf (sizesOf (programIn s)) first ∷ []) unseen 0 → r ≡ searchFrom (programIn s) slots
   unfolding searchFrom

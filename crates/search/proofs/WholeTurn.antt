@@ -22,11 +22,11 @@ use Rattle.state.specs.Shape.{Sizes, threadsOf, sizesOf, stateOf}
 use Rattle.state.specs.declared.State.{State}
 use Rattle.state.specs.declared.Thread.{Thread}
 use Rattle.state.proofs.Shape.{sizes-threads}
-use Rattle.reader.specs.Ticks.{tick}
-use Rattle.search.specs.Plan.{Planned}
+use Rattle.field.specs.Ticks.{tick}
+use Rattle.event.specs.Plan.{Planned}
+use Rattle.event.specs.declared.plan.Plan.{Plan}
 use Rattle.search.specs.Survey.{anyLive, boundOf, Surveys}
 use Rattle.search.specs.Turn.{liveAfter, Makes, Turns, turnedOf}
-use Rattle.search.specs.declared.plan.Plan.{Plan}
 use Rattle.search.specs.declared.survey.Survey.{Survey}
 use Rattle.search.specs.declared.turn.Made.{Made}
 use Rattle.search.specs.declared.turn.Turned.{Turned}

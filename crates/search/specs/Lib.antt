@@ -1,8 +1,4 @@
 -- The code's values as those of the rules, and what the contracts say.
-pub mod Plan
-pub mod Fetch
-pub mod Push
-pub mod Act
 pub mod Survey
 pub mod Turn
 pub mod Run

@@ -10,17 +10,17 @@ use Rattle.rules.specs.Base.{all}
 use Rattle.rules.specs.Lock.{Owner, mayTake}
 use Rattle.rules.specs.Program.{isHalt, Program}
 use Rattle.rules.specs.Search.{ThreadState, Live, greatestLow, greatestHigh, turnBound, waits}
-use Rattle.reader.specs.declared.decoding.Action.{Action}
-use Rattle.reader.specs.declared.decoding.Action.the-variants.{Halt, Skip, Assign, Branch, Store, Load, Unlock, Lock}
-use Rattle.reader.specs.declared.ticks.Time.{Time}
-use Rattle.reader.specs.Ticks.{tick}
+use Rattle.field.specs.declared.decoding.Action.{Action}
+use Rattle.field.specs.declared.decoding.Action.the-variants.{Halt, Skip, Assign, Branch, Store, Load, Unlock, Lock}
+use Rattle.field.specs.declared.ticks.Time.{Time}
+use Rattle.field.specs.Ticks.{tick}
+use Rattle.field.specs.Decoded.{halts}
 use Rattle.reader.specs.Facts.{statementIn}
-use Rattle.reader.specs.Decoded.{halts}
 use Rattle.state.specs.declared.Clock.{Clock}
 use Rattle.state.specs.declared.State.{State}
 use Rattle.state.specs.Access.{threadAt}
 use Rattle.state.specs.Shape.{ownerOf}
-use Rattle.search.specs.declared.fetch.Fetched.{Fetched}
+use Rattle.event.specs.declared.fetch.Fetched.{Fetched}
 use Rattle.search.specs.declared.survey.Survey.{Survey}
 
 abbrev pub anyLive : List Live → Bool

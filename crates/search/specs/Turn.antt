@@ -9,11 +9,11 @@ use Rattle.rules.specs.Search as S
 use Rattle.rules.specs.Search.{Live, refused, ended, follow, liveFrom, events}
 use Rattle.refusal.specs.Shape.{refusalOf}
 use Rattle.state.specs.Shape.{Sizes}
-use Rattle.search.specs.Push.{Pushed}
-use Rattle.reader.specs.Ticks.{tick}
-use Rattle.search.specs.declared.act.Event.{Event}
-use Rattle.search.specs.declared.act.Acted.{Acted}
-use Rattle.search.specs.declared.act.Acted.the-variants as acted
+use Rattle.event.specs.Push.{Pushed}
+use Rattle.field.specs.Ticks.{tick}
+use Rattle.event.specs.declared.act.Event.{Event}
+use Rattle.event.specs.declared.act.Acted.{Acted}
+use Rattle.event.specs.declared.act.Acted.the-variants as acted
 use Rattle.search.specs.declared.turn.Made.{Made}
 use Rattle.search.specs.declared.turn.Made.the-variants.{Fault, Height}
 use Rattle.search.specs.declared.turn.Turned.{Turned}

@@ -1,11 +1,11 @@
 // The loop over the stack.
-use crate::plan::Plan;
 use crate::survey::earlier_tick;
 use crate::survey::later_tick;
 use crate::turn::Turned;
 use crate::turn::turn;
+use event::plan::Plan;
+use field::Time;
 use reader::MOST_PLACES;
-use reader::Time;
 use refusal::Refusal;
 use state::State;
 use state::store;
@@ -18,8 +18,8 @@ ghost use Rattle.rules.specs.Search.{unseen};
 ghost use Rattle.state.specs.Shape.{sizesOf, stateOf};
 ghost use Rattle.state.specs.Cells.{AllTimed};
 ghost use Rattle.reader.specs.Facts.{programIn};
-ghost use Rattle.search.specs.Plan.{Ready};
-ghost use Rattle.search.specs.Push.{Room};
+ghost use Rattle.event.specs.Plan.{Ready};
+ghost use Rattle.event.specs.Push.{Room};
 ghost use Rattle.search.specs.Run.{windowOf, endOf};
 
 // The window found so far.

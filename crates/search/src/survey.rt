@@ -1,13 +1,13 @@
 // The threads of a state at the beginning of a turn, from the last to the first.
-use crate::fetch::Fetched;
-use crate::fetch::fetch;
-use crate::locking::may_take;
-use crate::plan::Plan;
+use event::fetch::Fetched;
+use event::fetch::fetch;
+use event::locking::may_take;
+use event::plan::Plan;
+use field::Action;
+use field::Time;
+use field::is_halt;
 use reader::MOST_PLACES;
 use reader::MOST_THREADS;
-use reader::Time;
-use reader::decoding::Action;
-use reader::decoding::is_halt;
 use state::Clock;
 use state::NUMBERS_PER_STATE;
 use state::at_of;
@@ -18,9 +18,9 @@ ghost use Prim.Native.Nat.{_+_, _<_, min, max};
 ghost use Rattle.rules.specs.Constants.{half32, mostThreads};
 ghost use Rattle.state.specs.Shape.{sizesOf, stateOf};
 ghost use Rattle.state.specs.Cells.{decode};
+ghost use Rattle.field.specs.Decoded.{halts};
 ghost use Rattle.reader.specs.Facts.{programIn};
-ghost use Rattle.reader.specs.Decoded.{halts};
-ghost use Rattle.search.specs.Plan.{Ready};
+ghost use Rattle.event.specs.Plan.{Ready};
 ghost use Rattle.search.specs.Survey.{Surveys, LockThere, waitsAt, addLive, addClock, addThread, earliestOf, EarliestFrom};
 ghost use Rattle.search.specs.Turn.{liveAfter};
 

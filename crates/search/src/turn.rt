@@ -1,14 +1,14 @@
 // A turn: what becomes of the state that was taken from the stack.
-use crate::act::Acted;
-use crate::act::Event;
-use crate::act::act;
-use crate::fetch::fetch;
-use crate::plan::Plan;
 use crate::survey::later_tick;
 use crate::survey::survey_threads;
+use event::act::Acted;
+use event::act::Event;
+use event::act::act;
+use event::fetch::fetch;
+use event::plan::Plan;
+use field::Time;
 use reader::MOST_PLACES;
 use reader::MOST_THREADS;
-use reader::Time;
 use refusal::Refusal;
 use state::NUMBERS_PER_STATE;
 use state::at_of;
@@ -24,8 +24,8 @@ ghost use Rattle.reader.specs.Index.{noEntry};
 ghost use Rattle.reader.specs.Facts.{programIn};
 ghost use Rattle.state.specs.Shape.{sizesOf, stateOf};
 ghost use Rattle.state.specs.Cells.{AllTimed, decode};
-ghost use Rattle.search.specs.Plan.{Ready};
-ghost use Rattle.search.specs.Push.{Room};
+ghost use Rattle.event.specs.Plan.{Ready};
+ghost use Rattle.event.specs.Push.{Room};
 ghost use Rattle.search.specs.Survey.{earliestAt, EarliestFrom};
 ghost use Rattle.search.specs.Turn.{liveAfter, Makes, heightOf, Turns, overOf, eventOf, turnedOf};
 

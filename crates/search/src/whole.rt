@@ -1,9 +1,9 @@
 // The search of a whole sheet: it is read, searched from its starting state, and the buffer is cleared.
-use crate::plan::Plan;
 use crate::run::Outcome;
 use crate::run::search;
+use event::plan::Plan;
+use field::Time;
 use reader::Index;
-use reader::Time;
 use reader::read_sheet;
 use refusal::Refusal;
 use state::NUMBERS_PER_STATE;
@@ -18,7 +18,7 @@ ghost use Rattle.rules.specs.Search.{searchFrom};
 ghost use Rattle.rules.specs.Demands.{AllZeros, Unchanged};
 ghost use Rattle.reader.specs.Index.{indexOf};
 ghost use Rattle.reader.specs.Facts.{programIn};
-ghost use Rattle.search.specs.Push.{Room};
+ghost use Rattle.event.specs.Push.{Room};
 ghost use Rattle.search.specs.Run.{endOf};
 ghost use Rattle.search.specs.Whole.{endWith, searchOf, searchedOf};
 

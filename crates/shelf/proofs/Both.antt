@@ -15,7 +15,7 @@ use Rattle.rules.specs.Format.{Bytes}
 use Rattle.rules.proofs.Refusal.{positive}
 use Rattle.refusal.specs.declared.Refusal.{Refusal}
 use Rattle.refusal.specs.Shape.{refusalOf, ruleOf}
-use Rattle.reader.proofs.outcome.Laws.{same-rule}
+use Rattle.field.proofs.outcome.Laws.{same-rule}
 use Rattle.shelf.specs.Pairs as P
 use Rattle.shelf.specs.Pairs.{hit, miss, stop, lookIn}
 use Rattle.shelf.specs.Lookup as L

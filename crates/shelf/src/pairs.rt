@@ -1,7 +1,7 @@
 // One file: pairs of a name (tag 48, one byte) and a sheet (tag 49, any bytes), and the look for a name in it.
-use reader::fields::any_field_end;
-use reader::fields::fixed_field_end;
-use reader::outcome::End;
+use field::End;
+use field::any_field_end;
+use field::fixed_field_end;
 use refusal::Refusal;
 ghost use mathlib.Core.Path.{_≡_};
 ghost use Rattle.shelf.specs.Pairs.{readPair, lookIn};

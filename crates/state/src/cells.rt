@@ -3,9 +3,9 @@
 // and high, then eight owners.
 use crate::State;
 use crate::Thread;
+use field::Time;
 use interval::Span;
 use interval::Val;
-use reader::Time;
 ghost use mathlib.Core.Path.{_≡_};
 ghost use Prim.Native.Nat.{_<_, _≤_, _+_, _*_};
 ghost use lib.IntN.{pos};

@@ -1,7 +1,7 @@
 // A state of the search, by value: where each thread stands, its clock and its registers, the variables, and who owns each
 // lock. There is always room for 4 threads, 8 registers each, 8 variables and 8 locks; the sheet says how many of them count.
+use field::Time;
 use interval::Span;
-use reader::Time;
 
 mod cells; // the numbers of a state, and the stack of states in the work buffer
 mod parts; // the parts of a state, read from its numbers

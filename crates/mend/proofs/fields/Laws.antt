@@ -7,7 +7,7 @@ use lib.Signed.{ltZ}
 use lib.ListN.{length}
 use borrow.Author.Tests.{eq-eqb, ne-eqb, le-leb, lt-leb}
 use Rattle.rules.specs.Format.{Bytes, byte, num16, num32, int32, hasHead}
-use Rattle.mend.specs.Mend.{reversed, lowEnd, endSize, notHalt, closesAt}
+use Rattle.mended.specs.Mend.{reversed, lowEnd, endSize, notHalt, closesAt}
 
 -- ---- by the tag
 

@@ -3,9 +3,9 @@ use mathlib.Core.Path.{refl, sym, ap, _∙_}
 use Prim.Native.Nat.{ℕ}
 use native.Mathlib.Omega.{arith}
 use lib.ListN.{length, length-replicate}
+use Rattle.mended.proofs.Answer.{too-long}
+use Rattle.mended.proofs.Claims.{mend-claims}
 use Rattle.mend.specs.Shape.{refusedBy}
-use Rattle.mend.proofs.Answer.{too-long}
-use Rattle.mend.proofs.Claims.{mend-claims}
 use borrow.Author.Needs.{needs}
 use Rattle.mend.proofs.mend_sheet.Statement.{statement}
 use Rattle.mend.proofs.mend_sheet.Tie as tie

@@ -4,7 +4,7 @@ use Prim.Native.Nat.{ℕ}
 use native.Mathlib.Omega.{arith}
 use lib.ListN.{length}
 use Rattle.writing.proofs.Written.{filled-up}
-use Rattle.mend.specs.Mend.{mended, numbersOf, filled}
+use Rattle.mended.specs.Mend.{mended, numbersOf, filled}
 use Rattle.mend.specs.Shape.{refusedBy}
 use Rattle.mend.proofs.Mending.{end-inside, written-end, written-bytes, written-length, list-length, listed-end, list-fits, list-past, when-refused, when-sheet-full, when-list-full, when-mended}
 use borrow.Author.Needs.{needs}

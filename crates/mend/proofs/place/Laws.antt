@@ -11,12 +11,12 @@ use Rattle.rules.specs.Base.{if_then_else_}
 use Rattle.rules.specs.Format.{Bytes, hasHead, hasBody}
 use Rattle.rules.specs.Sheets.{halt}
 use Rattle.rules.proofs.Base.{if-ind}
+use Rattle.mended.specs.Mend.{Change, Mended, behind, reversed, mendedField, notHalt, openAfter, closesAt, isField, onField, added, mendFrom, original, _then_}
+use Rattle.mended.proofs.Walk.{mend-on, mend-field, mend-end}
+use Rattle.mended.proofs.Applied.{EndsAt, open-ends}
 use Rattle.mend.specs.declared.place.Sought.{Sought}
 use Rattle.mend.specs.declared.place.Sought.the-variants.{Found, Further}
-use Rattle.mend.specs.Mend.{Change, Mended, behind, reversed, mendedField, notHalt, openAfter, closesAt, isField, onField, added, mendFrom, original, _then_}
 use Rattle.mend.specs.Shape.{lastOf, pastHalt}
-use Rattle.mend.proofs.Walk.{mend-on, mend-field, mend-end}
-use Rattle.mend.proofs.Applied.{EndsAt, open-ends}
 use Rattle.mend.proofs.writer.Laws.{whole-field}
 
 -- ---- past a halt

@@ -12,10 +12,10 @@ use Rattle.rules.proofs.Refusal.{positive}
 use Rattle.rules.proofs.IfAt.{need-yes}
 use Rattle.reader.specs.declared.Index.{Index}
 use Rattle.reader.specs.Index.{readUpTo, refusedIndex, indexOf}
-use Rattle.mend.specs.Mend.{mended, original}
+use Rattle.mended.specs.Mend.{mended, original}
+use Rattle.mended.proofs.Length.{at-most-twice}
+use Rattle.mended.proofs.Answer.{refused-sheet, mended-long, sheet-reads}
 use Rattle.mend.specs.Shape.{Judged, refused, good}
-use Rattle.mend.proofs.Length.{at-most-twice}
-use Rattle.mend.proofs.Answer.{refused-sheet, mended-long, sheet-reads}
 
 module _ (s : Bytes) (h : length s ≤ longestSheet) {b : Bytes} (is : b ≡ mended s .bytes) {x : Index} (read : x ≡ indexOf (readUpTo 32768 b)) where
   -- the mended sheet is not too long for an index

@@ -3,20 +3,35 @@ use mathlib.Core.Path.{_≡_, refl, sym, ap, _∙_, subst}
 use mathlib.Core.Bool.{Bool, true, false, _&&_, true≢false}
 use mathlib.Core.Option.{Option, none}
 use mathlib.Core.List.{List, [], _∷_}
-use Prim.Native.Nat.{ℕ, _+_, _≤_}
+use Prim.Native.Nat.{ℕ, zero, suc, _+_, _-_, _≤_}
 use native.Mathlib.Omega.{arith}
-use lib.ListN.{length, drop}
-use lib.Seq.{slice}
+use lib.ListN.{length, take, drop, length-drop}
+use lib.Seq.{slice, take-all, take-nil}
 use Rattle.rules.specs.Format.{Bytes, byte, hasHead, hasBody}
 use Rattle.rules.specs.Sheets.{halt}
 use Rattle.writing.specs.Out.{write, Writes}
 use Rattle.writing.proofs.Written.{then-writes}
+use Rattle.mended.specs.Mend.{Mended, haltAdded, copied, _then_, isField, behind, reversed, lowEnd, endSize, exchange, mendedField, notHalt, openAfter, closesAt, added, mendFrom, mended, numbersOf}
+use Rattle.mended.proofs.Walk.{ends-fit, then-assoc, numbers-append, mend-field, mend-end}
 use Rattle.mend.specs.declared.writer.Ends.{Ends}
-use Rattle.mend.specs.Mend.{Mended, haltAdded, copied, _then_, isField, behind, reversed, lowEnd, endSize, exchange, mendedField, notHalt, openAfter, closesAt, added, mendFrom, mended, numbersOf}
 use Rattle.mend.specs.Shape.{lastOf, noEnds, Puts}
 use Rattle.rules.proofs.IfAt.{is-true}
-use Rattle.mend.proofs.Slices.{lent, lent-slice, lent-rest}
-use Rattle.mend.proofs.Walk.{ends-fit, then-assoc, numbers-append, mend-field, mend-end}
+
+-- ---- a part as it is lent
+
+module _ {A : Type 0} where
+  -- so many from a place on
+  abbrev lent : ℕ → ℕ → List A → List A
+  lent p q l = take (q - p) (drop p l)
+
+  lent-slice : (p q : ℕ) (l : List A) → lent p q l ≡ slice p q l
+  lent-slice zero q l = let e : q - 0 ≡ q = omega arith in ap (λ (n : ℕ). take n l) e
+  lent-slice (suc p) zero l = let e : 0 - suc p ≡ 0 = omega arith in ap (λ (n : ℕ). take n (drop (suc p) l)) e
+  lent-slice (suc p) (suc q) [] = take-nil (suc q - suc p)
+  lent-slice (suc p) (suc q) (x ∷ l) = let e : suc q - suc p ≡ q - p = omega arith in ap (λ (n : ℕ). take n (drop p l)) e ∙ lent-slice p q l
+
+  lent-rest : (p : ℕ) (l : List A) → lent p (length l) l ≡ drop p l
+  lent-rest p l = take-all (length l - p) (drop p l) (omega (arith, length-drop p l))
 
 -- ---- one behind another
 

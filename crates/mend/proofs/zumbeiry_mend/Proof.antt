@@ -1,7 +1,7 @@
 -- `mend::zumbeiry_mend` meets its contract. Assumes nothing.
 use mathlib.Core.Path.{ap, _∙_}
 use Rattle.rules.specs.Base.{atFront}
-use Rattle.mend.specs.Mend.{Mending}
+use Rattle.mended.specs.Mend.{Mending}
 use Rattle.mend.specs.Shape.{four}
 use borrow.Author.Needs.{needs}
 use Rattle.mend.proofs.zumbeiry_mend.Statement.{statement}

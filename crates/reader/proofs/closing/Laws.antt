@@ -11,8 +11,8 @@ use borrow.Author.Tests.{eq-eqb, ne-eqb}
 use Rattle.rules.specs.Base.{if_then_else_}
 use Rattle.rules.specs.Format.{Bytes, byte}
 use Rattle.refusal.specs.declared.Refusal.the-variants.{NoSuchName, NoHalt}
-use Rattle.reader.specs.declared.outcome.End.{End}
-use Rattle.reader.specs.declared.outcome.End.the-variants.{At, Refused}
+use Rattle.field.specs.declared.outcome.End.{End}
+use Rattle.field.specs.declared.outcome.End.the-variants.{At, Refused}
 use Rattle.reader.specs.Index.{targetAt, targetsAt, lastAt}
 
 lasts : (s : Bytes) (ps : List ℕ) (m : ℕ) (g : End) → length ps ≡ suc m → lastAt s ps g ≡ (if eqb (byte s (getD ps m 0 + 7)) 0 then g else Refused NoHalt (getD ps m 0))

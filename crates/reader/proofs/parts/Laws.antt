@@ -11,17 +11,18 @@ use Rattle.rules.proofs.Format.{If, need-if}
 use Rattle.refusal.specs.declared.Refusal.{Refusal}
 use Rattle.refusal.specs.Shape.{ruleOf}
 use Rattle.refusal.proofs.Laws.{refusal-of-rule}
-use Rattle.reader.specs.declared.outcome.End.{End}
-use Rattle.reader.specs.declared.outcome.End.the-variants as end
-use Rattle.reader.specs.declared.outcome.Count.{Count}
-use Rattle.reader.specs.declared.outcome.Count.the-variants.{Found, Failed}
-use Rattle.reader.specs.declared.fields.Header.{Header}
+use Rattle.field.specs.declared.outcome.End.{End}
+use Rattle.field.specs.declared.outcome.End.the-variants as end
+use Rattle.field.specs.declared.outcome.Count.{Count}
+use Rattle.field.specs.declared.outcome.Count.the-variants.{Found, Failed}
+use Rattle.field.specs.declared.fields.Header.{Header}
+use Rattle.field.specs.Outcome.{endOf, countOf}
+use Rattle.field.specs.Header.{headerOf, headerIn, headerAt}
+use Rattle.field.proofs.outcome.Laws.{got-of, bad-of, count-failed, count-found}
 use Rattle.reader.specs.declared.parts.Progress.{Progress}
 use Rattle.reader.specs.declared.parts.Progress.the-variants.{Read, Refused}
 use Rattle.reader.specs.declared.parts.Part.{Part}
-use Rattle.reader.specs.Outcome.{endOf, countOf}
-use Rattle.reader.specs.Walk.{headerOf, headerIn, headerAt, partOf, headerPart, locksPart, variablesPart}
-use Rattle.reader.proofs.outcome.Laws.{got-of, bad-of, count-failed, count-found}
+use Rattle.reader.specs.Walk.{partOf, headerPart, locksPart, variablesPart}
 use Rattle.reader.proofs.threads.Laws.{head-there}
 
 -- ---- what was read, up to a place

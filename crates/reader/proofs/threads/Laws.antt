@@ -15,17 +15,17 @@ use Rattle.rules.specs.Format.{Bytes, byte, num16, Got, bad, got, andThen, Name
 use Rattle.rules.proofs.Format.{If, need-if, then-if, then-any}
 use Rattle.refusal.specs.declared.Refusal.{Refusal}
 use Rattle.refusal.specs.Shape.{refusalOf, ruleOf}
-use Rattle.reader.specs.declared.outcome.End.{End}
-use Rattle.reader.specs.declared.outcome.End.the-variants.{At, Refused}
-use Rattle.reader.specs.declared.outcome.Count.{Count}
-use Rattle.reader.specs.declared.outcome.Count.the-variants.{Found, Failed}
-use Rattle.reader.specs.Outcome.{endOf, failure}
-use Rattle.reader.specs.Index.{targetsAt, lastAt, placesOf, StatementsRead, ThreadRead}
-use Rattle.reader.proofs.outcome.Laws.{got-of, bad-of, same-rule}
+use Rattle.field.specs.declared.outcome.End.{End}
+use Rattle.field.specs.declared.outcome.End.the-variants.{At, Refused}
+use Rattle.field.specs.declared.outcome.Count.{Count}
+use Rattle.field.specs.declared.outcome.Count.the-variants.{Found, Failed}
+use Rattle.field.specs.Outcome.{endOf}
+use Rattle.field.proofs.outcome.Laws.{got-of, bad-of, same-rule}
+use Rattle.field.proofs.fields.Laws.{namesField}
+use Rattle.reader.specs.Index.{targetsAt, lastAt, placesOf, StatementsRead, failure, ThreadRead}
 use Rattle.refusal.proofs.Laws.{refusal-of-rule}
-use Rattle.reader.proofs.fields.Laws.{namesField}
-use Rattle.reader.proofs.Loops.{map-length}
-use Rattle.reader.proofs.statements.Codes.{CodeAt, codes-at, close-same, close-gives}
+use Rattle.reader.proofs.Filled.{map-length}
+use Rattle.reader.proofs.closing.Codes.{CodeAt, codes-at, close-same, close-gives}
 
 -- ---- what the code's answers on statements say
 

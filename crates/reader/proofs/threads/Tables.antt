@@ -12,16 +12,17 @@ use Rattle.rules.specs.Format.{Bytes, byte, Got, bad, got, readThread, threadHe
 use Rattle.refusal.specs.declared.Refusal.{Refusal}
 use Rattle.refusal.specs.declared.Refusal.the-variants.{TooMany}
 use Rattle.refusal.specs.Shape.{refusalOf, ruleOf}
-use Rattle.reader.specs.declared.outcome.Next.the-variants.{More, Done}
-use Rattle.reader.specs.declared.outcome.Count.{Count}
-use Rattle.reader.specs.declared.outcome.Count.the-variants.{Found, Failed}
+use Rattle.field.specs.declared.outcome.Next.the-variants.{More, Done}
+use Rattle.field.specs.declared.outcome.Count.{Count}
+use Rattle.field.specs.declared.outcome.Count.the-variants.{Found, Failed}
+use Rattle.field.specs.Outcome.{nextOf}
+use Rattle.field.proofs.outcome.Laws.{same-rule}
+use Rattle.field.proofs.Loops.{Turn, turn-done, turn-full, turn-ill, turn-well, turn-items}
 use Rattle.reader.specs.declared.threads.ThreadEntry.{ThreadEntry}
 use Rattle.reader.specs.declared.threads.Threads.{Threads}
-use Rattle.reader.specs.Outcome.{nextOf}
 use Rattle.reader.specs.Index.{placesOf, layPlaces, entryWith, noEntry, entryOf, entriesOf, ThreadRead, ThreadsRead}
-use Rattle.reader.proofs.outcome.Laws.{same-rule}
 use Rattle.refusal.proofs.Laws.{refusal-of-rule}
-use Rattle.reader.proofs.Loops.{Turn, turn-done, turn-full, turn-ill, turn-well, turn-items, table-more}
+use Rattle.reader.proofs.Filled.{table-more}
 use Rattle.reader.proofs.threads.Laws.{Opened, opened}
 
 -- ---- what the code's answer on a thread says

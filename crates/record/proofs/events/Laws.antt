@@ -11,17 +11,17 @@ use Rattle.refusal.specs.declared.Refusal.{Refusal}
 use Rattle.refusal.specs.Shape.{ruleOf}
 use Rattle.expression.specs.declared.parts.Check.{Check}
 use Rattle.expression.specs.declared.parts.Check.the-variants.{Passed, Fault}
-use Rattle.reader.specs.declared.outcome.End.{End}
-use Rattle.reader.specs.declared.outcome.End.the-variants.{At, Refused}
-use Rattle.reader.specs.Outcome.{endOf}
+use Rattle.field.specs.declared.outcome.End.{End}
+use Rattle.field.specs.declared.outcome.End.the-variants.{At, Refused}
+use Rattle.field.specs.Outcome.{endOf}
 use Rattle.rules.proofs.IfAt.{when-got}
 use Rattle.rules.proofs.FieldAt.{Field, field-at}
-use Rattle.reader.proofs.outcome.Laws.{got-of, bad-of}
-use Rattle.record.specs.Follow as F
-use Rattle.record.specs.Follow.{replay, atField, followEvent, followFrom}
+use Rattle.field.proofs.outcome.Laws.{got-of, bad-of}
+use Rattle.recorded.specs.Follow as F
+use Rattle.recorded.specs.Follow.{replay, atField, followEvent, followFrom}
+use Rattle.recorded.proofs.Loop.{Behind, event-behind, from-on}
 use Rattle.record.specs.Replay.{unlessFault}
 use Rattle.record.specs.Reached.{placed}
-use Rattle.record.proofs.Loop.{Behind, event-behind, from-on}
 
 -- ---- a field of a tag and a length
 

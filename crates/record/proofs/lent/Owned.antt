@@ -25,12 +25,12 @@ use denote.Enum.Laws as EL
 use denote.Struct.Laws as LL
 use denote.Struct.Steps.{spelt}
 use Rattle.expression.specs.declared.parts.Check.{Check}
-use Rattle.search.specs.declared.plan.Plan.{Plan}
+use Rattle.event.specs.declared.plan.Plan.{Plan}
+use Rattle.event.proofs.plan.Plan as P
+use Rattle.event.proofs.plan.Plan.Laws as P′
 use Rattle.record.specs.declared.replay.Replay.{Replay}
 use Rattle.expression.proofs.parts.Check as K
 use Rattle.expression.proofs.parts.Check.Laws as K′
-use Rattle.search.proofs.plan.Plan as P
-use Rattle.search.proofs.plan.Plan.Laws as P′
 use Rattle.record.proofs.replay.Replay as T
 use Rattle.record.proofs.replay.Replay.Laws as T′
 

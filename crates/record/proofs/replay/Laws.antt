@@ -8,7 +8,7 @@ use lib.ListN.{length, getD, set}
 use Rattle.rules.specs.Run as R
 use Rattle.rules.specs.Run.{standing}
 use Rattle.interval.specs.declared.Val.{Val}
-use Rattle.reader.specs.declared.ticks.Time.{Time}
+use Rattle.field.specs.declared.ticks.Time.{Time}
 use Rattle.state.specs.Shape.{Sizes, ownersOf}
 use Rattle.state.proofs.Shape.{view-set, view-get}
 use Rattle.record.specs.Known.{numberOf, valuesOf}

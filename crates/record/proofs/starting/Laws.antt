@@ -29,14 +29,14 @@ use Rattle.interval.specs.Bounds.{holds}
 use Rattle.expression.specs.declared.parts.Check.{Check}
 use Rattle.expression.specs.declared.parts.Check.the-variants.{Passed, Fault}
 use Rattle.expression.specs.Evaluation.{regsOf}
-use Rattle.reader.specs.declared.outcome.End.{End}
-use Rattle.reader.specs.declared.outcome.End.the-variants.{At, Refused}
-use Rattle.reader.specs.Outcome.{endOf}
+use Rattle.field.specs.declared.outcome.End.{End}
+use Rattle.field.specs.declared.outcome.End.the-variants.{At, Refused}
+use Rattle.field.specs.Outcome.{endOf}
 use Rattle.reader.specs.Facts.{threadIn}
 use Rattle.state.specs.Shape.{Sizes, ownersOf, sizesOf}
 use Rattle.state.proofs.Shape.{regs-get, sizes-threads, sizes-regs}
-use Rattle.record.specs.Follow as F
-use Rattle.record.specs.Follow.{startValue, startValues, atStart, startThreads, startReplay}
+use Rattle.recorded.specs.Follow as F
+use Rattle.recorded.specs.Follow.{startValue, startValues, atStart, startThreads, startReplay}
 use Rattle.record.specs.Known.{numberOf, valuesOf}
 use Rattle.record.specs.Replay.{unlessFault, threadOf, threadsOf, after}
 use Rattle.record.specs.Reached.{placed}

@@ -1,7 +1,7 @@
 -- An event of a record is one of the rule for runs, and its effect is the rule's. Assumes nothing.
 use mathlib.Core.Path.{_≡_, refl, sym, ap, subst, _∙_}
 use mathlib.Core.Bool.{Bool, true, false, not, _&&_, _||_}
-use Prim.Native.Nat.{ℕ, _+_, _-_, _≤_, _<_}
+use Prim.Native.Nat.{ℕ, _+_, _-_, _%_, _≤_, _<_}
 use native.Mathlib.Omega.{arith}
 use lib.Dec.{T, leb, leb→le, le→leb}
 use lib.ListN.{length, getD}
@@ -13,17 +13,17 @@ use Rattle.rules.specs.Program.{Program, isHalt}
 use Rattle.rules.specs.Run as R
 use Rattle.rules.specs.Run.{RunThread, RunState, noRunThread, statementOf, live, isEvent, outcome, step}
 use Rattle.rules.specs.Format.{Bytes}
-use Rattle.record.specs.Follow as F
-use Rattle.record.specs.Follow.{tickAfter, replayed}
+use Rattle.event.specs.Fetch.{namesOf, Fetches}
+use Rattle.event.specs.declared.fetch.Fetched.{Fetched}
+use Rattle.recorded.specs.Follow as F
+use Rattle.recorded.specs.Follow.{gap, tickAfter, replayed}
 use Rattle.rules.proofs.Base.{and-left, and-right, and-both, or-elim, or-intro, all-below-elim, all-below-intro, below-suc, same-test}
 use Rattle.rules.proofs.Event.{event-ends, ends-event}
+use Rattle.field.specs.Decoded.{halts}
+use Rattle.field.proofs.Halts.{halts-same}
 use Rattle.reader.specs.Facts.{programIn, statementIn}
-use Rattle.reader.specs.Decoded.{halts}
-use Rattle.reader.proofs.Halts.{halts-same}
 use Rattle.state.specs.Shape.{sizesOf}
 use Rattle.state.proofs.Shape.{sizes-threads}
-use Rattle.search.specs.declared.fetch.Fetched.{Fetched}
-use Rattle.search.specs.Fetch.{namesOf, Fetches}
 use Rattle.record.specs.Replay.{threadAt, threadOf, stateOf, replayedOf}
 use Rattle.record.specs.Act.{atTick, Acts}
 use Rattle.expression.specs.declared.parts.Check.{Check}
@@ -33,6 +33,13 @@ use Rattle.record.specs.declared.replay.Replay.{Replay}
 use Rattle.record.specs.declared.replay.Replayed.{Replayed}
 use Rattle.record.specs.declared.act.Event.{Event}
 use Rattle.record.proofs.replay.Laws.{threads-get}
+
+-- ---- the tick
+
+-- what `std::num::wrapping_sub_u16(after, before)` promises of its result is the gap, and nothing else
+pub gap-only : (before after d : ℕ) → before < 65536 → d < 65536 → (d + before) % 65536 ≡ after → d ≡ gap before after
+unfolding gap
+gap-only before after d h k e = omega arith
 
 -- ---- when an event may end
 

@@ -10,8 +10,8 @@ use Rattle.rules.specs.Refusal.{tooLong}
 use Rattle.rules.specs.Program.{Program}
 use Rattle.rules.specs.Run.{RunState, live, finished}
 use Rattle.rules.specs.Format.{Bytes, bad, got, andThen, need}
-use Rattle.record.specs.Follow as F
-use Rattle.record.specs.Follow.{longestRecord, startReplay, followFrom, followRecord}
+use Rattle.recorded.specs.Follow as F
+use Rattle.recorded.specs.Follow.{longestRecord, startReplay, followFrom, followRecord}
 use Rattle.record.specs.declared.replay.Replay.{Replay}
 
 -- whether thread t of a run stands at halt

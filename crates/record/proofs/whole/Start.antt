@@ -10,7 +10,8 @@ use Rattle.rules.specs.Format.{Bytes, Got, bad, got, readSheet}
 use Rattle.rules.specs.Search.{ThreadState, start}
 use Rattle.rules.specs.Search as RS
 use Rattle.rules.specs.Demands.{Unchanged}
-use Rattle.record.specs.Follow.{followWith, answerOf, followRecord, refused}
+use Rattle.event.specs.declared.plan.Plan.{Plan}
+use Rattle.recorded.specs.Follow.{followWith, answerOf, followRecord}
 use Rattle.expression.specs.Evaluation.{regsOf}
 use Rattle.reader.specs.declared.Index.{Index}
 use Rattle.reader.specs.declared.threads.ThreadEntry.{ThreadEntry}
@@ -21,17 +22,16 @@ use Rattle.state.specs.declared.State.{State}
 use Rattle.state.specs.Access.{threadAt}
 use Rattle.state.specs.Shape.{sizesOf, stateOf}
 use Rattle.state.proofs.Shape.{sizes-threads, sizes-regs, state-thread}
-use Rattle.search.specs.declared.plan.Plan.{Plan}
-use Rattle.record.specs.Follow as F
-use Rattle.record.specs.Claims.{EndsInLabel}
+use Rattle.recorded.specs.Follow as F
+use Rattle.recorded.specs.Claims.{EndsInLabel}
+use Rattle.recorded.proofs.Claims.{follow-claims}
 use Rattle.record.specs.Start.{StartsFrom, VariablesFrom}
 use Rattle.record.specs.Shape.{refusedSheet}
-use Rattle.record.proofs.Claims.{follow-claims}
 
 -- ---- a sheet that is refused
 
 pub sheet-refused : (i : Index) (x : Got Program) (r : Bytes) → i ≡ indexOf x → (i .refusal ≡ 0 → ⊥) → refusedSheet (i .refusal) (i .place) ≡ followWith r x
-unfolding indexOf refusedIndex followWith refused
+unfolding indexOf refusedIndex followWith
 sheet-refused i (bad n p) r e h = ap (λ (j : Index). refusedSheet (j .refusal) (j .place)) e
 sheet-refused i (got g q) r e h = absurd (h (ap (λ (j : Index). j .refusal) e))
 

@@ -6,8 +6,8 @@ use lib.ListN.{length, length-set, drop}
 use lib.Seq.{sets-eq}
 use borrow.Author.Needs.{needs}
 use borrow.Author.Tests.{lt-ltb, le-ltb}
-use Rattle.record.specs.Follow.{Answer, listed}
-use Rattle.record.proofs.Claims.{follow-claims}
+use Rattle.recorded.specs.Follow.{Answer, listed}
+use Rattle.recorded.proofs.Claims.{follow-claims}
 use Rattle.record.proofs.zumbeiry_follow.Statement.{statement}
 use Rattle.record.proofs.zumbeiry_follow.Tie as tie
 

@@ -1,7 +1,7 @@
 -- `retime::zumbeiry_change_times` meets its contract. Assumes nothing.
 use mathlib.Core.Path.{ap, _∙_}
 use Rattle.rules.specs.Base.{atFront}
-use Rattle.retime.specs.Retime.{Changed}
+use Rattle.retimed.specs.Retime.{Changed}
 use Rattle.retime.specs.Shape.{eight}
 use borrow.Author.Needs.{needs}
 use Rattle.retime.proofs.zumbeiry_change_times.Statement.{statement}

@@ -3,7 +3,7 @@ use mathlib.Core.Path.{ap, subst, _∙_}
 use Rattle.rules.specs.Base.{atFront}
 use Rattle.rules.specs.Search.{Answer}
 use Rattle.label.specs.Shape.{listed}
-use Rattle.retime.specs.Claims.{HoldsRetimed}
+use Rattle.retimed.specs.Claims.{HoldsRetimed}
 use borrow.Author.Needs.{needs}
 use Rattle.retime.proofs.zumbeiry_preview.Statement.{statement}
 use Rattle.retime.proofs.zumbeiry_preview.Tie as tie

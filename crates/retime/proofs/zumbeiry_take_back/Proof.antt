@@ -5,7 +5,7 @@ use native.Mathlib.Omega.{arith}
 use borrow.Author.Tests.{lt-ltb, le-ltb}
 use lib.ListN.{length, length-set, drop}
 use lib.Seq.{sets-eq}
-use Rattle.retime.specs.TakeBack.{TakenBack}
+use Rattle.retimed.specs.TakeBack.{TakenBack}
 use borrow.Author.Needs.{needs}
 use Rattle.retime.proofs.zumbeiry_take_back.Statement.{statement}
 use Rattle.retime.proofs.zumbeiry_take_back.Tie as tie

@@ -16,24 +16,24 @@ use Rattle.rules.specs.Program as R
 use Rattle.rules.specs.Program.{isHalt, Program, noThread}
 use Rattle.rules.specs.Format.{Bytes, Names}
 use Rattle.rules.specs.Search.{ThreadState, Live, statementAt, liveFrom, greatestLow, greatestHigh, turnBound, waits}
-use Rattle.reader.specs.Decoded.{halts, bodyEnd, actionOf}
+use Rattle.field.specs.Decoded.{halts, bodyEnd, actionOf}
+use Rattle.field.specs.declared.decoding.Action.{Action}
+use Rattle.field.specs.declared.decoding.Action.the-variants.{Halt, Skip, Assign, Branch, Store, Load, Unlock, Lock}
+use Rattle.field.proofs.decoding.Action as action
+use Rattle.field.specs.declared.ticks.Time.{Time}
+use Rattle.field.specs.Ticks.{tick}
+use Rattle.field.proofs.Halts.{halts-same}
 use Rattle.reader.specs.Facts.{programIn, threadIn, statementIn, Named}
-use Rattle.reader.specs.declared.decoding.Action.{Action}
-use Rattle.reader.specs.declared.decoding.Action.the-variants.{Halt, Skip, Assign, Branch, Store, Load, Unlock, Lock}
-use Rattle.reader.proofs.decoding.Action as action
-use Rattle.reader.specs.declared.ticks.Time.{Time}
-use Rattle.reader.specs.Ticks.{tick}
-use Rattle.reader.proofs.Halts.{halts-same}
 use Rattle.state.specs.declared.State.{State}
 use Rattle.state.specs.Shape.{ownerOf, threadOf, sizesOf, stateOf}
 use Rattle.state.specs.Access.{threadAt, ownerAt}
 use Rattle.state.specs.Cells.{Sound}
 use Rattle.state.proofs.Shape.{threads-length, sizes-threads, state-thread, state-owner}
-use Rattle.search.specs.declared.plan.Plan.{Plan}
-use Rattle.search.specs.declared.fetch.Fetched.{Fetched}
+use Rattle.event.specs.declared.plan.Plan.{Plan}
+use Rattle.event.specs.declared.fetch.Fetched.{Fetched}
+use Rattle.event.specs.Plan.{Ready}
+use Rattle.event.specs.Fetch.{namesOf, Fetches}
 use Rattle.search.specs.declared.survey.Survey.{Survey}
-use Rattle.search.specs.Plan.{Ready}
-use Rattle.search.specs.Fetch.{namesOf, Fetches}
 use Rattle.search.specs.Survey.{anyLive, boundOf, Surveys, LockThere, waitsAt, addLive, addClock, addThread, earliestOf, earliestAt, EarliestFrom}
 use Rattle.search.specs.Turn.{liveAfter}
 

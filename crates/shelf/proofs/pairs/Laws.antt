@@ -12,13 +12,13 @@ use Rattle.rules.specs.Format.{Bytes, Got, bad, got, andThen, need, mapGot, byt
 use Rattle.refusal.specs.declared.Refusal.{Refusal}
 use Rattle.refusal.specs.Shape.{refusalOf, ruleOf}
 use Rattle.refusal.proofs.Laws.{refusal-of-rule}
-use Rattle.reader.specs.declared.outcome.End.{End}
-use Rattle.reader.specs.declared.outcome.End.the-variants.{At, Refused}
-use Rattle.reader.specs.Outcome.{endOf}
-use Rattle.reader.specs.Decoded.{bodyEnd}
+use Rattle.field.specs.declared.outcome.End.{End}
+use Rattle.field.specs.declared.outcome.End.the-variants.{At, Refused}
+use Rattle.field.specs.Outcome.{endOf}
+use Rattle.field.specs.Decoded.{bodyEnd}
 use Rattle.rules.proofs.IfAt.{when-got}
-use Rattle.reader.proofs.outcome.Laws.{need-end, got-of, bad-of, same-rule}
-use Rattle.reader.proofs.fields.AnyField.{due-end, sized-end}
+use Rattle.field.proofs.outcome.Laws.{need-end, got-of, bad-of, same-rule}
+use Rattle.field.proofs.fields.AnyField.{due-end, sized-end}
 use Rattle.shelf.specs.Pairs as P
 use Rattle.shelf.specs.Pairs.{readName, passSheet, readPair, onPair, lookIn}
 use Rattle.shelf.specs.declared.pairs.Pair.{Pair}

@@ -1,7 +1,7 @@
 -- `mend::fields::is_added` meets its contract. Assumes nothing.
 use mathlib.Core.Path.{sym, ap, _∙_}
 use mathlib.Core.Bool.{Bool, _&&_}
-use Rattle.mend.specs.Mend.{closesAt}
+use Rattle.mended.specs.Mend.{closesAt}
 use borrow.Author.Needs.{needs}
 use Rattle.mend.proofs.fields.is_added.Statement.{statement}
 use Rattle.mend.proofs.fields.is_added.Tie as tie

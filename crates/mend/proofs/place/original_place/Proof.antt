@@ -1,5 +1,8 @@
 -- `mend::place::original_place` meets its contract. Assumes nothing.
 use borrow.Author.Needs.{needs}
+use Rattle.mended.specs.Mend.{mendFrom, mended, original}
+use Rattle.mended.proofs.Applied.{EndsAt}
+use Rattle.mended.proofs.Walk.{field-inside}
 use Rattle.mend.proofs.place.Laws.{turn-found, turn-end, turn-field, next-ends}
 use native.Mathlib.Omega.{arith}
 use mathlib.Core.Path.{_≡_, refl}
@@ -7,10 +10,7 @@ use Prim.Native.Nat.{_-_, _≤_}
 use lib.ListN.{length}
 use borrow.Author.Tests.{not-true, not-false}
 use Rattle.rules.specs.Constants.{longestSheet}
-use Rattle.mend.specs.Mend.{mendFrom, mended, original}
 use Rattle.mend.specs.Shape.{lastOf}
-use Rattle.mend.proofs.Applied.{EndsAt}
-use Rattle.mend.proofs.Walk.{field-inside}
 use Rattle.mend.proofs.writer.Laws.{whole-field}
 use Rattle.mend.proofs.place.original_place.Statement.{statement}
 use Rattle.mend.proofs.place.original_place.Tie as tie

@@ -1,4 +1,5 @@
 -- `mend::writer::put_fields` meets its contract. Assumes nothing.
+use Rattle.mended.proofs.Walk.{field-inside}
 use Rattle.mend.proofs.writer.Laws.{SoFar, so-far-none, so-far-field, so-far-end, rest-put, whole-field}
 use borrow.Author.Needs.{needs}
 use native.Mathlib.Omega.{arith}
@@ -8,7 +9,6 @@ use lib.ListN.{length}
 use borrow.Author.Tests.{not-true, not-false}
 use Rattle.rules.specs.Constants.{longestSheet}
 use Rattle.mend.specs.Shape.{lastOf}
-use Rattle.mend.proofs.Walk.{field-inside}
 use Rattle.mend.proofs.writer.put_fields.Statement.{statement}
 use Rattle.mend.proofs.writer.put_fields.Tie as tie
 

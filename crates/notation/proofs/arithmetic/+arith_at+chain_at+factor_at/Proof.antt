@@ -1,11 +1,11 @@
 -- `notation::arithmetic::arith_at`, `notation::arithmetic::chain_at` and `notation::arithmetic::factor_at`, which call each other, meet their contracts. Assumes nothing.
 use borrow.Author.Needs.{needs}
-use mathlib.Core.Path.{sym, _∙_}
+use mathlib.Core.Path.{refl, sym, _∙_}
 use native.Mathlib.Omega.{arith}
 use native.Mathlib.Nat.{le-refl}
 use Rattle.scan.specs.Writing.{Builds}
 use Rattle.notation.proofs.ArithLaws.{arith-stop, arith-chain, arith-level, factor-starts, factor-over, factor-deep, factor-group, insideOf, never-logical}
-use Rattle.notation.proofs.ChainLaws.{ChainSoFar, chain-start, chain-place, chain-ends, chain-broken, broken-place, chain-stops, stops-place, less-left, chain-more, joined-facts}
+use Rattle.notation.proofs.ChainLaws.{ChainSoFar, chain-start, chain-kept, chain-place, chain-ends, chain-broken, broken-place, chain-stops, stops-place, less-left, chain-more, joined-facts}
 use Rattle.scan.proofs.BuildLaws.{built-stop, built-took, builds-as, made-begun, onward-as, onward-from}
 use lib.ListN.{length}
 use Rattle.notation.specs.Forms.{arithForm, opsAt, arithAt}
@@ -26,7 +26,7 @@ use Rattle.scan.proofs.both.Reads as both-reads
 use Rattle.notation.proofs.closing.closed_at.Reads as closed-at-reads
 use Rattle.notation.proofs.signs.operator_at.Reads as operator-at-reads
 use Rattle.scan.proofs.insert.Reads as insert-reads
-use Rattle.scan.proofs.past.Reads as past-reads
+use Rattle.scan.proofs.keep.Reads as keep-reads
 use Rattle.scan.proofs.spaces_end.Reads as spaces-end-reads
 use Rattle.notation.proofs.arithmetic.+arith_at+chain_at+factor_at.{statement}
 use Rattle.notation.proofs.arithmetic.+arith_at+chain_at+factor_at.Tie.{close}
@@ -99,70 +99,79 @@ arith-at-returns-3 : (t : ℕ) → arith-at-lts.Need-returns-3 (factor-at-below 
 arith-at-returns-3 t c = let m = built-took _ _ _ _ _ _ _ (c .before .before .before .before .before .before .before .before .before .arith-at .ensures .0) (c .before .before .before .before .before .x2 .given .1) in let o = onward-as (c .before .before .before .before .before .before .before .before .before .arith-at .ensures .1) (c .before .before .before .before .before .x2 .given .1) in (builds-as _ _ _ _ _ _ _ (c .before .before .chain-at .ensures .0 _ (m .thing) _ (le-refl _) (made-begun m (sym (c .before .before .before .before .before .before .before .before .before .arith-at .kept .1 .1 .1 .1 .0)))) (arith-chain _ _ _ _ (m .thing) (c .before .before .before .before .before .before .before .before .before .before .before .if1 .left) (m .is)), onward-from _ (o .on) (le-refl _) (c .before .before .chain-at .ensures .1))
 
 abbrev chain-at-Inv-loop : chain-at-lts.InvT-loop
-chain-at-Inv-loop s p depth level out₀ at end fits q₀ e₀ f₀ out q e f = ChainSoFar arithForm (opsAt level) (arithAt depth (level - 1)) s p out₀ at end fits out q e f
+chain-at-Inv-loop s p depth level out₀ at end fits codes₀ count₀ q₀ e₀ f₀ out codes count q e f = ChainSoFar arithForm (opsAt level) (arithAt depth (level - 1)) s p out₀ at end fits out codes count q e f
 
 abbrev chain-at-μ-loop : chain-at-lts.MeasureT-loop
-chain-at-μ-loop s p depth level out₀ at end fits q₀ e₀ f₀ out q e f = length s - q
+chain-at-μ-loop s p depth level out₀ at end fits codes₀ count₀ q₀ e₀ f₀ out codes count q e f = length s - q
 
-chain-at-loop-holds : (t : ℕ) → chain-at-lts.Need-loop-holds (operator-at-reads.Asked, operator-at-reads.Learnt, insert-reads.Asked, insert-reads.Learnt, past-reads.Asked, past-reads.Learnt, arith-at-below t, arith-at.Post, both-reads.Asked, both-reads.Learnt) (chain-at-at t) chain-at.Post chain-at-Inv-loop chain-at-μ-loop
-chain-at-loop-holds t c = chain-start _ _ _ _ _ _ _ _ _ (c .before .before .pre .1 .0) (c .before .before .pre .1 .2) (c .before .before .pre .1 .3) (c .before .before .pre .1 .4)
+chain-at-loop-holds : (t : ℕ) → chain-at-lts.Need-loop-holds (operator-at-reads.Asked, operator-at-reads.Learnt, insert-reads.Asked, insert-reads.Learnt, keep-reads.Asked, keep-reads.Learnt, arith-at-below t, arith-at.Post, both-reads.Asked, both-reads.Learnt) (chain-at-at t) chain-at.Post chain-at-Inv-loop chain-at-μ-loop
+chain-at-loop-holds t c = let pre = c .before .before .pre .1 in chain-start _ _ _ _ _ _ _ _ _ _ (pre .0) (pre .2) (pre .3) (pre .4) refl
 
-chain-at-operator-at-requires : (t : ℕ) → chain-at-lts.Need-operator-at-requires (operator-at-reads.Asked, operator-at-reads.Learnt, insert-reads.Asked, insert-reads.Learnt, past-reads.Asked, past-reads.Learnt, arith-at-below t, arith-at.Post, both-reads.Asked, both-reads.Learnt) (chain-at-at t) chain-at.Post chain-at-Inv-loop chain-at-μ-loop
+chain-at-operator-at-requires : (t : ℕ) → chain-at-lts.Need-operator-at-requires (operator-at-reads.Asked, operator-at-reads.Learnt, insert-reads.Asked, insert-reads.Learnt, keep-reads.Asked, keep-reads.Learnt, arith-at-below t, arith-at.Post, both-reads.Asked, both-reads.Learnt) (chain-at-at t) chain-at.Post chain-at-Inv-loop chain-at-μ-loop
 chain-at-operator-at-requires t c κs = search needs
 
-chain-at-enum-told : (t : ℕ) → chain-at-lts.Need-enum-told (operator-at-reads.Asked, operator-at-reads.Learnt, insert-reads.Asked, insert-reads.Learnt, past-reads.Asked, past-reads.Learnt, arith-at-below t, arith-at.Post, both-reads.Asked, both-reads.Learnt) (chain-at-at t) chain-at.Post chain-at-Inv-loop chain-at-μ-loop
+chain-at-enum-told : (t : ℕ) → chain-at-lts.Need-enum-told (operator-at-reads.Asked, operator-at-reads.Learnt, insert-reads.Asked, insert-reads.Learnt, keep-reads.Asked, keep-reads.Learnt, arith-at-below t, arith-at.Post, both-reads.Asked, both-reads.Learnt) (chain-at-at t) chain-at.Post chain-at-Inv-loop chain-at-μ-loop
 chain-at-enum-told t c = search needs
 
-chain-at-same-length : (t : ℕ) → chain-at-lts.Need-same-length (operator-at-reads.Asked, operator-at-reads.Learnt, insert-reads.Asked, insert-reads.Learnt, past-reads.Asked, past-reads.Learnt, arith-at-below t, arith-at.Post, both-reads.Asked, both-reads.Learnt) (chain-at-at t) chain-at.Post chain-at-Inv-loop chain-at-μ-loop
+chain-at-slice-aggregate-insert : (t : ℕ) → chain-at-lts.Need-slice-aggregate-insert (operator-at-reads.Asked, operator-at-reads.Learnt, insert-reads.Asked, insert-reads.Learnt, keep-reads.Asked, keep-reads.Learnt, arith-at-below t, arith-at.Post, both-reads.Asked, both-reads.Learnt) (chain-at-at t) chain-at.Post chain-at-Inv-loop chain-at-μ-loop
+chain-at-slice-aggregate-insert t c = search (needs, c .before .before .before .before .before .loop .inv .most)
+
+chain-at-insert-requires : (t : ℕ) → chain-at-lts.Need-insert-requires (operator-at-reads.Asked, operator-at-reads.Learnt, insert-reads.Asked, insert-reads.Learnt, keep-reads.Asked, keep-reads.Learnt, arith-at-below t, arith-at.Post, both-reads.Asked, both-reads.Learnt) (chain-at-at t) chain-at.Post chain-at-Inv-loop chain-at-μ-loop
+chain-at-insert-requires t c κs = let i = c .before .before .before .before .before .loop .inv in let from = i .from in let few = i .few in let most = i .most in (omega arith, i .top, few, omega arith)
+
+chain-at-same-length : (t : ℕ) → chain-at-lts.Need-same-length (operator-at-reads.Asked, operator-at-reads.Learnt, insert-reads.Asked, insert-reads.Learnt, keep-reads.Asked, keep-reads.Learnt, arith-at-below t, arith-at.Post, both-reads.Asked, both-reads.Learnt) (chain-at-at t) chain-at.Post chain-at-Inv-loop chain-at-μ-loop
 chain-at-same-length t c = search needs
 
-chain-at-returns : (t : ℕ) → chain-at-lts.Need-returns (operator-at-reads.Asked, operator-at-reads.Learnt, insert-reads.Asked, insert-reads.Learnt, past-reads.Asked, past-reads.Learnt, arith-at-below t, arith-at.Post, both-reads.Asked, both-reads.Learnt) (chain-at-at t) chain-at.Post chain-at-Inv-loop chain-at-μ-loop
-chain-at-returns t c = (chain-ends (c .before .before .before .loop .inv) (c .before .before .operator-at .ensures) _ never-logical (c .enum-told .given .1), chain-place (c .before .before .before .loop .inv) _)
+chain-at-returns : (t : ℕ) → chain-at-lts.Need-returns (operator-at-reads.Asked, operator-at-reads.Learnt, insert-reads.Asked, insert-reads.Learnt, keep-reads.Asked, keep-reads.Learnt, arith-at-below t, arith-at.Post, both-reads.Asked, both-reads.Learnt) (chain-at-at t) chain-at.Post chain-at-Inv-loop chain-at-μ-loop
+chain-at-returns t c = let i = c .before .before .before .before .before .before .before .before .loop .inv in let w = c .before .before .insert .ensures in (chain-ends i (c .before .before .before .before .before .before .before .operator-at .ensures) _ never-logical (c .before .before .before .before .before .enum-told .given .1) (w .0) (w .1), chain-place i _ (w .1))
 
-chain-at-enum-known-sign : (t : ℕ) → chain-at-lts.Need-enum-known-sign (operator-at-reads.Asked, operator-at-reads.Learnt, insert-reads.Asked, insert-reads.Learnt, past-reads.Asked, past-reads.Learnt, arith-at-below t, arith-at.Post, both-reads.Asked, both-reads.Learnt) (chain-at-at t) chain-at.Post chain-at-Inv-loop chain-at-μ-loop
+chain-at-enum-known-sign : (t : ℕ) → chain-at-lts.Need-enum-known-sign (operator-at-reads.Asked, operator-at-reads.Learnt, insert-reads.Asked, insert-reads.Learnt, keep-reads.Asked, keep-reads.Learnt, arith-at-below t, arith-at.Post, both-reads.Asked, both-reads.Learnt) (chain-at-at t) chain-at.Post chain-at-Inv-loop chain-at-μ-loop
 chain-at-enum-known-sign t c = search needs
 
-chain-at-same-length-2 : (t : ℕ) → chain-at-lts.Need-same-length-2 (operator-at-reads.Asked, operator-at-reads.Learnt, insert-reads.Asked, insert-reads.Learnt, past-reads.Asked, past-reads.Learnt, arith-at-below t, arith-at.Post, both-reads.Asked, both-reads.Learnt) (chain-at-at t) chain-at.Post chain-at-Inv-loop chain-at-μ-loop
+chain-at-same-length-2 : (t : ℕ) → chain-at-lts.Need-same-length-2 (operator-at-reads.Asked, operator-at-reads.Learnt, insert-reads.Asked, insert-reads.Learnt, keep-reads.Asked, keep-reads.Learnt, arith-at-below t, arith-at.Post, both-reads.Asked, both-reads.Learnt) (chain-at-at t) chain-at.Post chain-at-Inv-loop chain-at-μ-loop
 chain-at-same-length-2 t c = search needs
 
-chain-at-returns-2 : (t : ℕ) → chain-at-lts.Need-returns-2 (operator-at-reads.Asked, operator-at-reads.Learnt, insert-reads.Asked, insert-reads.Learnt, past-reads.Asked, past-reads.Learnt, arith-at-below t, arith-at.Post, both-reads.Asked, both-reads.Learnt) (chain-at-at t) chain-at.Post chain-at-Inv-loop chain-at-μ-loop
+chain-at-returns-2 : (t : ℕ) → chain-at-lts.Need-returns-2 (operator-at-reads.Asked, operator-at-reads.Learnt, insert-reads.Asked, insert-reads.Learnt, keep-reads.Asked, keep-reads.Learnt, arith-at-below t, arith-at.Post, both-reads.Asked, both-reads.Learnt) (chain-at-at t) chain-at.Post chain-at-Inv-loop chain-at-μ-loop
 chain-at-returns-2 t c = (chain-broken (c .before .before .before .before .loop .inv) (c .before .before .before .operator-at .ensures) (c .before .sign .given .1) _, broken-place (c .before .before .before .before .loop .inv) (c .before .before .before .operator-at .ensures) (c .before .sign .given .1))
 
-chain-at-enum-known-sign-2 : (t : ℕ) → chain-at-lts.Need-enum-known-sign-2 (operator-at-reads.Asked, operator-at-reads.Learnt, insert-reads.Asked, insert-reads.Learnt, past-reads.Asked, past-reads.Learnt, arith-at-below t, arith-at.Post, both-reads.Asked, both-reads.Learnt) (chain-at-at t) chain-at.Post chain-at-Inv-loop chain-at-μ-loop
+chain-at-enum-known-sign-2 : (t : ℕ) → chain-at-lts.Need-enum-known-sign-2 (operator-at-reads.Asked, operator-at-reads.Learnt, insert-reads.Asked, insert-reads.Learnt, keep-reads.Asked, keep-reads.Learnt, arith-at-below t, arith-at.Post, both-reads.Asked, both-reads.Learnt) (chain-at-at t) chain-at.Post chain-at-Inv-loop chain-at-μ-loop
 chain-at-enum-known-sign-2 t c = search needs
 
-chain-at-insert-requires : (t : ℕ) → chain-at-lts.Need-insert-requires (operator-at-reads.Asked, operator-at-reads.Learnt, insert-reads.Asked, insert-reads.Learnt, past-reads.Asked, past-reads.Learnt, arith-at-below t, arith-at.Post, both-reads.Asked, both-reads.Learnt) (chain-at-at t) chain-at.Post chain-at-Inv-loop chain-at-μ-loop
-chain-at-insert-requires t c κs = search needs
+chain-at-slice-aggregate-keep : (t : ℕ) → chain-at-lts.Need-slice-aggregate-keep (operator-at-reads.Asked, operator-at-reads.Learnt, insert-reads.Asked, insert-reads.Learnt, keep-reads.Asked, keep-reads.Learnt, arith-at-below t, arith-at.Post, both-reads.Asked, both-reads.Learnt) (chain-at-at t) chain-at.Post chain-at-Inv-loop chain-at-μ-loop
+chain-at-slice-aggregate-keep t c = search (needs, c .before .before .before .before .before .before .loop .inv .most)
 
-chain-at-past-requires : (t : ℕ) → chain-at-lts.Need-past-requires (operator-at-reads.Asked, operator-at-reads.Learnt, insert-reads.Asked, insert-reads.Learnt, past-reads.Asked, past-reads.Learnt, arith-at-below t, arith-at.Post, both-reads.Asked, both-reads.Learnt) (chain-at-at t) chain-at.Post chain-at-Inv-loop chain-at-μ-loop
-chain-at-past-requires t c κs = search needs
+chain-at-keep-requires : (t : ℕ) → chain-at-lts.Need-keep-requires (operator-at-reads.Asked, operator-at-reads.Learnt, insert-reads.Asked, insert-reads.Learnt, keep-reads.Asked, keep-reads.Learnt, arith-at-below t, arith-at.Post, both-reads.Asked, both-reads.Learnt) (chain-at-at t) chain-at.Post chain-at-Inv-loop chain-at-μ-loop
+chain-at-keep-requires t c κs = let i = c .before .before .before .before .before .before .loop .inv in let most = i .most in (i .from, i .top, i .few, omega arith, omega arith)
 
-chain-at-sub-arith-at : (t : ℕ) → chain-at-lts.Need-sub-arith-at (operator-at-reads.Asked, operator-at-reads.Learnt, insert-reads.Asked, insert-reads.Learnt, past-reads.Asked, past-reads.Learnt, arith-at-below t, arith-at.Post, both-reads.Asked, both-reads.Learnt) (chain-at-at t) chain-at.Post chain-at-Inv-loop chain-at-μ-loop
+chain-at-sub-arith-at : (t : ℕ) → chain-at-lts.Need-sub-arith-at (operator-at-reads.Asked, operator-at-reads.Learnt, insert-reads.Asked, insert-reads.Learnt, keep-reads.Asked, keep-reads.Learnt, arith-at-below t, arith-at.Post, both-reads.Asked, both-reads.Learnt) (chain-at-at t) chain-at.Post chain-at-Inv-loop chain-at-μ-loop
 chain-at-sub-arith-at t c = search needs
 
-chain-at-arith-at-requires : (t : ℕ) → chain-at-lts.Need-arith-at-requires (operator-at-reads.Asked, operator-at-reads.Learnt, insert-reads.Asked, insert-reads.Learnt, past-reads.Asked, past-reads.Learnt, arith-at-below t, arith-at.Post, both-reads.Asked, both-reads.Learnt) (chain-at-at t) chain-at.Post chain-at-Inv-loop chain-at-μ-loop
-chain-at-arith-at-requires t c κs = let w = joined-facts (c .before .before .before .before .before .before .before .before .before .operator-at .ensures) (c .before .before .before .before .before .before .before .sign2 .given .1) in let i = c .before .before .before .before .before .before .before .before .before .before .loop .inv in search needs
+chain-at-arith-at-requires : (t : ℕ) → chain-at-lts.Need-arith-at-requires (operator-at-reads.Asked, operator-at-reads.Learnt, insert-reads.Asked, insert-reads.Learnt, keep-reads.Asked, keep-reads.Learnt, arith-at-below t, arith-at.Post, both-reads.Asked, both-reads.Learnt) (chain-at-at t) chain-at.Post chain-at-Inv-loop chain-at-μ-loop
+chain-at-arith-at-requires t c κs = let w = joined-facts (c .before .before .before .before .before .before .before .before .before .before .operator-at .ensures) (c .before .before .before .before .before .before .before .before .sign2 .given .1) in let i = c .before .before .before .before .before .before .before .before .before .before .before .loop .inv in let k = chain-kept i (c .before .before .before .before .keep .ensures) in (search needs, (w .1, k .top, search needs))
 
-chain-at-enum-known-x : (t : ℕ) → chain-at-lts.Need-enum-known-x (operator-at-reads.Asked, operator-at-reads.Learnt, insert-reads.Asked, insert-reads.Learnt, past-reads.Asked, past-reads.Learnt, arith-at-below t, arith-at.Post, both-reads.Asked, both-reads.Learnt) (chain-at-at t) chain-at.Post chain-at-Inv-loop chain-at-μ-loop
+chain-at-enum-known-x : (t : ℕ) → chain-at-lts.Need-enum-known-x (operator-at-reads.Asked, operator-at-reads.Learnt, insert-reads.Asked, insert-reads.Learnt, keep-reads.Asked, keep-reads.Learnt, arith-at-below t, arith-at.Post, both-reads.Asked, both-reads.Learnt) (chain-at-at t) chain-at.Post chain-at-Inv-loop chain-at-μ-loop
 chain-at-enum-known-x t c = search needs
 
-chain-at-same-length-3 : (t : ℕ) → chain-at-lts.Need-same-length-3 (operator-at-reads.Asked, operator-at-reads.Learnt, insert-reads.Asked, insert-reads.Learnt, past-reads.Asked, past-reads.Learnt, arith-at-below t, arith-at.Post, both-reads.Asked, both-reads.Learnt) (chain-at-at t) chain-at.Post chain-at-Inv-loop chain-at-μ-loop
+chain-at-same-length-3 : (t : ℕ) → chain-at-lts.Need-same-length-3 (operator-at-reads.Asked, operator-at-reads.Learnt, insert-reads.Asked, insert-reads.Learnt, keep-reads.Asked, keep-reads.Learnt, arith-at-below t, arith-at.Post, both-reads.Asked, both-reads.Learnt) (chain-at-at t) chain-at.Post chain-at-Inv-loop chain-at-μ-loop
 chain-at-same-length-3 t c = search needs
 
-chain-at-returns-3 : (t : ℕ) → chain-at-lts.Need-returns-3 (operator-at-reads.Asked, operator-at-reads.Learnt, insert-reads.Asked, insert-reads.Learnt, past-reads.Asked, past-reads.Learnt, arith-at-below t, arith-at.Post, both-reads.Asked, both-reads.Learnt) (chain-at-at t) chain-at.Post chain-at-Inv-loop chain-at-μ-loop
-chain-at-returns-3 t c = let o = onward-as (c .before .before .before .before .before .arith-at .ensures .1) (c .before .x .given .1) in (chain-stops (c .before .before .before .before .before .before .before .before .before .before .before .before .before .before .before .before .loop .inv) (c .before .before .before .before .before .before .before .before .before .before .before .before .before .before .before .operator-at .ensures) (c .before .before .before .before .before .before .before .before .before .before .before .before .before .sign2 .given .1) _ (built-stop _ _ _ _ _ _ _ (c .before .before .before .before .before .arith-at .ensures .0) (c .before .x .given .1)) _, stops-place (c .before .before .before .before .before .before .before .before .before .before .before .before .before .before .before .before .loop .inv) (c .before .before .before .before .before .before .before .before .before .before .before .before .before .before .before .operator-at .ensures) (c .before .before .before .before .before .before .before .before .before .before .before .before .before .sign2 .given .1) o)
+chain-at-returns-3 : (t : ℕ) → chain-at-lts.Need-returns-3 (operator-at-reads.Asked, operator-at-reads.Learnt, insert-reads.Asked, insert-reads.Learnt, keep-reads.Asked, keep-reads.Learnt, arith-at-below t, arith-at.Post, both-reads.Asked, both-reads.Learnt) (chain-at-at t) chain-at.Post chain-at-Inv-loop chain-at-μ-loop
+chain-at-returns-3 t c = let i = c .before .before .before .before .before .before .before .before .before .before .before .before .before .before .before .before .before .loop .inv in let g = c .before .before .before .before .before .before .before .before .before .before .before .before .before .before .before .before .operator-at .ensures in let z = c .before .before .before .before .before .before .before .before .before .before .before .before .before .before .sign2 .given .1 in let a = c .before .before .before .before .before .arith-at .ensures in let x = c .before .x .given .1 in (chain-stops i g z _ (built-stop _ _ _ _ _ _ _ (a .0) x) _, stops-place i g z (onward-as (a .1) x))
 
-chain-at-enum-known-x-2 : (t : ℕ) → chain-at-lts.Need-enum-known-x-2 (operator-at-reads.Asked, operator-at-reads.Learnt, insert-reads.Asked, insert-reads.Learnt, past-reads.Asked, past-reads.Learnt, arith-at-below t, arith-at.Post, both-reads.Asked, both-reads.Learnt) (chain-at-at t) chain-at.Post chain-at-Inv-loop chain-at-μ-loop
+chain-at-enum-known-x-2 : (t : ℕ) → chain-at-lts.Need-enum-known-x-2 (operator-at-reads.Asked, operator-at-reads.Learnt, insert-reads.Asked, insert-reads.Learnt, keep-reads.Asked, keep-reads.Learnt, arith-at-below t, arith-at.Post, both-reads.Asked, both-reads.Learnt) (chain-at-at t) chain-at.Post chain-at-Inv-loop chain-at-μ-loop
 chain-at-enum-known-x-2 t c = search needs
 
-chain-at-both-requires : (t : ℕ) → chain-at-lts.Need-both-requires (operator-at-reads.Asked, operator-at-reads.Learnt, insert-reads.Asked, insert-reads.Learnt, past-reads.Asked, past-reads.Learnt, arith-at-below t, arith-at.Post, both-reads.Asked, both-reads.Learnt) (chain-at-at t) chain-at.Post chain-at-Inv-loop chain-at-μ-loop
+chain-at-both-requires : (t : ℕ) → chain-at-lts.Need-both-requires (operator-at-reads.Asked, operator-at-reads.Learnt, insert-reads.Asked, insert-reads.Learnt, keep-reads.Asked, keep-reads.Learnt, arith-at-below t, arith-at.Post, both-reads.Asked, both-reads.Learnt) (chain-at-at t) chain-at.Post chain-at-Inv-loop chain-at-μ-loop
 chain-at-both-requires t c κs = search needs
 
-chain-at-loop-less : (t : ℕ) → chain-at-lts.Need-loop-less (operator-at-reads.Asked, operator-at-reads.Learnt, insert-reads.Asked, insert-reads.Learnt, past-reads.Asked, past-reads.Learnt, arith-at-below t, arith-at.Post, both-reads.Asked, both-reads.Learnt) (chain-at-at t) chain-at.Post chain-at-Inv-loop chain-at-μ-loop
-chain-at-loop-less t c = less-left (c .before .before .before .before .before .before .before .before .before .before .before .before .before .before .before .before .before .loop .inv) (c .before .before .before .before .before .before .before .before .before .before .before .before .before .before .before .before .operator-at .ensures) (c .before .before .before .before .before .before .before .before .before .before .before .before .before .before .sign2 .given .1) (onward-as (c .before .before .before .before .before .before .arith-at .ensures .1) (c .before .before .x2 .given .1))
+chain-at-loop-less : (t : ℕ) → chain-at-lts.Need-loop-less (operator-at-reads.Asked, operator-at-reads.Learnt, insert-reads.Asked, insert-reads.Learnt, keep-reads.Asked, keep-reads.Learnt, arith-at-below t, arith-at.Post, both-reads.Asked, both-reads.Learnt) (chain-at-at t) chain-at.Post chain-at-Inv-loop chain-at-μ-loop
+chain-at-loop-less t c = less-left (c .before .before .before .before .before .before .before .before .before .before .before .before .before .before .before .before .before .before .loop .inv) (c .before .before .before .before .before .before .before .before .before .before .before .before .before .before .before .before .before .operator-at .ensures) (c .before .before .before .before .before .before .before .before .before .before .before .before .before .before .before .sign2 .given .1) (onward-as (c .before .before .before .before .before .before .arith-at .ensures .1) (c .before .before .x2 .given .1))
 
-chain-at-loop-again : (t : ℕ) → chain-at-lts.Need-loop-again (operator-at-reads.Asked, operator-at-reads.Learnt, insert-reads.Asked, insert-reads.Learnt, past-reads.Asked, past-reads.Learnt, arith-at-below t, arith-at.Post, both-reads.Asked, both-reads.Learnt) (chain-at-at t) chain-at.Post chain-at-Inv-loop chain-at-μ-loop
-chain-at-loop-again t c = let o = onward-as (c .before .before .before .before .before .before .arith-at .ensures .1) (c .before .before .x2 .given .1) in chain-more (c .before .before .before .before .before .before .before .before .before .before .before .before .before .before .before .before .before .loop .inv) (c .before .before .before .before .before .before .before .before .before .before .before .before .before .before .before .before .operator-at .ensures) (c .before .before .before .before .before .before .before .before .before .before .before .before .before .before .sign2 .given .1) (c .before .before .before .before .before .before .before .before .before .before .before .insert .ensures) (c .before .before .before .before .before .before .before .before .past .ensures) (c .before .before .before .before .before .before .before .before .before .before .before .insert .kept .0) (c .before .before .before .before .before .before .arith-at .kept .1 .1 .1 .1 .0 ∙ c .before .before .before .before .before .before .before .before .before .before .before .insert .kept .0) (built-took _ _ _ _ _ _ _ (c .before .before .before .before .before .before .arith-at .ensures .0) (c .before .before .x2 .given .1)) o (c .both .ensures)
+chain-at-loop-again : (t : ℕ) → chain-at-lts.Need-loop-again (operator-at-reads.Asked, operator-at-reads.Learnt, insert-reads.Asked, insert-reads.Learnt, keep-reads.Asked, keep-reads.Learnt, arith-at-below t, arith-at.Post, both-reads.Asked, both-reads.Learnt) (chain-at-at t) chain-at.Post chain-at-Inv-loop chain-at-μ-loop
+chain-at-loop-again t c = let a = c .before .before .before .before .before .before .arith-at in
+    let k = c .before .before .before .before .before .before .before .before .before .before .before .keep in
+    let x = c .before .before .x2 .given .1 in
+    chain-more (c .before .before .before .before .before .before .before .before .before .before .before .before .before .before .before .before .before .before .loop .inv) (c .before .before .before .before .before .before .before .before .before .before .before .before .before .before .before .before .before .operator-at .ensures) (c .before .before .before .before .before .before .before .before .before .before .before .before .before .before .before .sign2 .given .1) (k .ensures) (k .kept .1 .1 .1 .0) (k .kept .0) (a .kept .1 .1 .1 .1 .0 ∙ k .kept .0) (built-took _ _ _ _ _ _ _ (a .ensures .0) x) (onward-as (a .ensures .1) x) (c .both .ensures)
 
 factor-at-spaces-end-requires : (t : ℕ) → factor-at-lts.Need-spaces-end-requires (spaces-end-reads.Asked, spaces-end-reads.Learnt, arith-at-below t, arith-at.Post, closed-at-reads.Asked, closed-at-reads.Learnt, leaf-at-reads.Asked, leaf-at-reads.Learnt) (factor-at-at t) factor-at.Post
 factor-at-spaces-end-requires t c κs = search needs
@@ -238,8 +247,8 @@ pub +arith-at+chain-at+factor-at-spec : {M : Type 1} → statement M
       operator-at-reads.Learnt,
       insert-reads.Asked,
       insert-reads.Learnt,
-      past-reads.Asked,
-      past-reads.Learnt,
+      keep-reads.Asked,
+      keep-reads.Learnt,
       arith-at-below t,
       arith-at.Post,
       both-reads.Asked,
@@ -252,14 +261,16 @@ pub +arith-at+chain-at+factor-at-spec : {M : Type 1} → statement M
     (chain-at-loop-holds t)
     (chain-at-operator-at-requires t)
     (chain-at-enum-told t)
+    (chain-at-slice-aggregate-insert t)
+    (chain-at-insert-requires t)
     (chain-at-same-length t)
     (chain-at-returns t)
     (chain-at-enum-known-sign t)
     (chain-at-same-length-2 t)
     (chain-at-returns-2 t)
     (chain-at-enum-known-sign-2 t)
-    (chain-at-insert-requires t)
-    (chain-at-past-requires t)
+    (chain-at-slice-aggregate-keep t)
+    (chain-at-keep-requires t)
     (chain-at-sub-arith-at t)
     (chain-at-arith-at-requires t)
     (chain-at-enum-known-x t)

@@ -22,11 +22,11 @@ enum-known-sign c = search needs
 enum-known-sign-2 : tie.Need-enum-known-sign-2
 enum-known-sign-2 c = search needs
 
+slice-aggregate-insert : tie.Need-slice-aggregate-insert
+slice-aggregate-insert c = search needs
+
 insert-requires : tie.Need-insert-requires
 insert-requires c κs = search needs
-
-past-requires : tie.Need-past-requires
-past-requires c κs = search needs
 
 arith-at-requires : tie.Need-arith-at-requires
 arith-at-requires c κs = let w = joined-facts (c .before .before .before .before .before .before .before .before .before .comparison-at .ensures) (c .before .before .before .before .before .before .before .sign2 .given .1) in (w .1, search needs, search needs)
@@ -60,7 +60,14 @@ same-length-2 c = search needs
 
 returns-4 : tie.Need-returns-4
 unfolding Builds
-returns-4 c = let i = onward-as (c .before .before .before .before .before .before .arith-at .ensures .1) (c .before .before .x2 .given .1) in (λ o a b. compare-took _ (c .before .before .before .before .before .before .before .before .before .before .before .before .before .before .before .before .comparison-at .ensures) (c .before .before .before .before .before .before .before .before .before .before .before .before .before .before .sign2 .given .1) (c .before .before .before .before .before .before .before .before .before .before .before .before .before .before .before .before .before .before .before .pre .3) (c .before .before .before .before .before .before .before .before .before .before .before .insert .kept .0) (c .before .before .before .before .before .before .arith-at .kept .1 .1 .1 .1 .0 ∙ c .before .before .before .before .before .before .before .before .before .before .before .insert .kept .0) b (c .before .before .before .before .before .before .before .before .before .before .before .insert .ensures) (c .before .before .before .before .before .before .before .before .past .ensures) (built-took _ _ _ _ _ _ _ (c .before .before .before .before .before .before .arith-at .ensures .0) (c .before .before .x2 .given .1)) (c .both .ensures), compared-place (c .before .before .before .before .before .before .before .before .before .before .before .before .before .before .before .before .comparison-at .ensures) (c .before .before .before .before .before .before .before .before .before .before .before .before .before .before .sign2 .given .1) (c .before .before .before .before .before .before .before .before .before .before .before .before .before .before .before .before .before .before .before .pre .1) (c .before .before .before .before .before .before .before .before .before .before .before .before .before .before .before .before .before .before .before .pre .2) (c .before .before .before .before .before .before .before .before .past .ensures) i)
+returns-4 c =
+    let pre = c .before .before .before .before .before .before .before .before .before .before .before .before .before .before .before .before .before .before .before .pre in
+    let g = c .before .before .before .before .before .before .before .before .before .before .before .before .before .before .before .before .comparison-at .ensures in
+    let z = c .before .before .before .before .before .before .before .before .before .before .before .before .before .before .sign2 .given .1 in
+    let w = c .before .before .before .before .before .before .before .before .before .before .insert in
+    let a = c .before .before .before .before .before .before .arith-at in
+    let x = c .before .before .x2 .given .1 in
+    (λ o d b. compare-took _ g z (pre .3) (w .kept .0) (a .kept .1 .1 .1 .1 .0 ∙ w .kept .0) b (w .ensures .0) (w .ensures .1) (built-took _ _ _ _ _ _ _ (a .ensures .0) x) (c .both .ensures), compared-place g z (pre .1) (pre .2) (w .ensures .1) (onward-as (a .ensures .1) x))
 
 pub compare-at-spec : {M : Type 1} → statement M
 compare-at-spec =
@@ -70,8 +77,8 @@ compare-at-spec =
     enum-told
     enum-known-sign
     enum-known-sign-2
+    slice-aggregate-insert
     insert-requires
-    past-requires
     arith-at-requires
     enum-known-x
     enum-known-x-2

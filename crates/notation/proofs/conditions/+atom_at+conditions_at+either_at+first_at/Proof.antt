@@ -10,7 +10,7 @@ use Rattle.notation.specs.Forms.{arithForm, conditionForm, thingForm, gr
 use Rattle.notation.specs.Nots.{nots}
 use Rattle.notation.proofs.ConditionLaws.{first-over, first-deep, first-group, start-is, start-end, either-stop, either-arithmetic, either-logical, atomic-is, always-logical}
 use Rattle.notation.proofs.CloseLaws.{made-logical, made-arithmetic, within-logical}
-use Rattle.notation.proofs.ChainLaws.{ChainSoFar, chain-start, chain-place, chain-ends, chain-broken, broken-place, chain-stops, stops-place, less-left, chain-more, joined-facts}
+use Rattle.notation.proofs.ChainLaws.{ChainSoFar, chain-start, chain-kept, chain-place, chain-ends, chain-broken, broken-place, chain-stops, stops-place, less-left, chain-more, joined-facts}
 use Rattle.scan.proofs.BuildLaws.{built-stop, built-took, builds-as, builds-within, onward-as, onward-from, onward-more}
 use Prim.Native.Nat.{ℕ, _+_, _*_, _-_, _<_}
 use borrow.Fn.Kinds.{In}
@@ -36,7 +36,7 @@ use Rattle.notation.proofs.conditions.nots_at.Reads as nots-at-reads
 use Rattle.notation.proofs.conditions.word_or_leaf_at.Reads as word-or-leaf-at-reads
 use Rattle.notation.proofs.signs.conjunction_at.Reads as conjunction-at-reads
 use Rattle.scan.proofs.insert.Reads as insert-reads
-use Rattle.scan.proofs.past.Reads as past-reads
+use Rattle.scan.proofs.keep.Reads as keep-reads
 use Rattle.notation.proofs.conditions.+atom_at+conditions_at+either_at+first_at.{statement}
 use Rattle.notation.proofs.conditions.+atom_at+conditions_at+either_at+first_at.Tie.{close}
 
@@ -103,70 +103,86 @@ atom-at-returns : (t : ℕ) → atom-at-lts.Need-returns (nots-at-reads.Asked, n
 atom-at-returns t c = let n = c .before .before .before .before .before .before .before .before .before .before .before .nots-at .ensures in let room = c .before .before .before .before .before .before .before .before .before .before .before .nots-at .kept .1 .1 .0 in let small = c .before .before .before .before .before .before .before .before .before .before .before .before .before .before .before .pre .1 .2 in (builds-as _ _ _ _ _ _ _ (c .negated-by .ensures .0 _ _ _ _ _ (n .count) _ (sym room) (omega arith) (n .some-is) (n .wrote) (c .before .before .before .begun-at .ensures .0 _ _ (sym (c .before .before .before .before .before .before .before .first-at .kept .1 .1 .1 .0)) (c .before .before .before .before .before .before .before .first-at .ensures .0))) (n .reads (startAt (c .before .before .before .before .before .before .before .before .before .before .before .before .before .before .before .args .depth)) (start-end _) ∙ ap (nots (n .count)) (start-is _ _)), c .negated-by .ensures .1 _ _ (onward-from _ (le-trans (n .on) (c .before .before .before .before .before .before .before .first-at .ensures .1 .on)) (n .from) (c .before .before .before .begun-at .ensures .1)))
 
 abbrev conditions-at-Inv-loop : conditions-at-lts.InvT-loop
-conditions-at-Inv-loop s p depth out₀ at end fits q₀ e₀ f₀ out q e f = ChainSoFar conditionForm conjunctions (atomic (startAt depth)) s p out₀ at end fits out q e f
+conditions-at-Inv-loop s p depth out₀ at end fits codes₀ count₀ q₀ e₀ f₀ out codes count q e f = ChainSoFar conditionForm conjunctions (atomic (startAt depth)) s p out₀ at end fits out codes count q e f
 
 abbrev conditions-at-μ-loop : conditions-at-lts.MeasureT-loop
-conditions-at-μ-loop s p depth out₀ at end fits q₀ e₀ f₀ out q e f = length s - q
+conditions-at-μ-loop s p depth out₀ at end fits codes₀ count₀ q₀ e₀ f₀ out codes count q e f = length s - q
 
-conditions-at-loop-holds : (t : ℕ) → conditions-at-lts.Need-loop-holds (conjunction-at-reads.Asked, conjunction-at-reads.Learnt, insert-reads.Asked, insert-reads.Learnt, past-reads.Asked, past-reads.Learnt, atom-at-below t, atom-at.Post, condition-only-reads.Asked, condition-only-reads.Learnt, both-reads.Asked, both-reads.Learnt) (conditions-at-at t) conditions-at.Post conditions-at-Inv-loop conditions-at-μ-loop
-conditions-at-loop-holds t c = chain-start _ _ _ _ _ _ _ _ _ (c .before .before .pre .1 .0) (c .before .before .pre .1 .1) (c .before .before .pre .1 .2) (c .before .before .pre .1 .3)
+conditions-at-loop-holds : (t : ℕ) → conditions-at-lts.Need-loop-holds (conjunction-at-reads.Asked, conjunction-at-reads.Learnt, insert-reads.Asked, insert-reads.Learnt, keep-reads.Asked, keep-reads.Learnt, atom-at-below t, atom-at.Post, condition-only-reads.Asked, condition-only-reads.Learnt, both-reads.Asked, both-reads.Learnt) (conditions-at-at t) conditions-at.Post conditions-at-Inv-loop conditions-at-μ-loop
+conditions-at-loop-holds t c = let pre = c .before .before .pre .1 in chain-start _ _ _ _ _ _ _ _ _ _ (pre .0) (pre .1) (pre .2) (pre .3) refl
 
-conditions-at-conjunction-at-requires : (t : ℕ) → conditions-at-lts.Need-conjunction-at-requires (conjunction-at-reads.Asked, conjunction-at-reads.Learnt, insert-reads.Asked, insert-reads.Learnt, past-reads.Asked, past-reads.Learnt, atom-at-below t, atom-at.Post, condition-only-reads.Asked, condition-only-reads.Learnt, both-reads.Asked, both-reads.Learnt) (conditions-at-at t) conditions-at.Post conditions-at-Inv-loop conditions-at-μ-loop
+conditions-at-conjunction-at-requires : (t : ℕ) → conditions-at-lts.Need-conjunction-at-requires (conjunction-at-reads.Asked, conjunction-at-reads.Learnt, insert-reads.Asked, insert-reads.Learnt, keep-reads.Asked, keep-reads.Learnt, atom-at-below t, atom-at.Post, condition-only-reads.Asked, condition-only-reads.Learnt, both-reads.Asked, both-reads.Learnt) (conditions-at-at t) conditions-at.Post conditions-at-Inv-loop conditions-at-μ-loop
 conditions-at-conjunction-at-requires t c κs = search needs
 
-conditions-at-enum-told : (t : ℕ) → conditions-at-lts.Need-enum-told (conjunction-at-reads.Asked, conjunction-at-reads.Learnt, insert-reads.Asked, insert-reads.Learnt, past-reads.Asked, past-reads.Learnt, atom-at-below t, atom-at.Post, condition-only-reads.Asked, condition-only-reads.Learnt, both-reads.Asked, both-reads.Learnt) (conditions-at-at t) conditions-at.Post conditions-at-Inv-loop conditions-at-μ-loop
+conditions-at-enum-told : (t : ℕ) → conditions-at-lts.Need-enum-told (conjunction-at-reads.Asked, conjunction-at-reads.Learnt, insert-reads.Asked, insert-reads.Learnt, keep-reads.Asked, keep-reads.Learnt, atom-at-below t, atom-at.Post, condition-only-reads.Asked, condition-only-reads.Learnt, both-reads.Asked, both-reads.Learnt) (conditions-at-at t) conditions-at.Post conditions-at-Inv-loop conditions-at-μ-loop
 conditions-at-enum-told t c = search needs
 
-conditions-at-same-length : (t : ℕ) → conditions-at-lts.Need-same-length (conjunction-at-reads.Asked, conjunction-at-reads.Learnt, insert-reads.Asked, insert-reads.Learnt, past-reads.Asked, past-reads.Learnt, atom-at-below t, atom-at.Post, condition-only-reads.Asked, condition-only-reads.Learnt, both-reads.Asked, both-reads.Learnt) (conditions-at-at t) conditions-at.Post conditions-at-Inv-loop conditions-at-μ-loop
+conditions-at-slice-aggregate-insert : (t : ℕ) → conditions-at-lts.Need-slice-aggregate-insert (conjunction-at-reads.Asked, conjunction-at-reads.Learnt, insert-reads.Asked, insert-reads.Learnt, keep-reads.Asked, keep-reads.Learnt, atom-at-below t, atom-at.Post, condition-only-reads.Asked, condition-only-reads.Learnt, both-reads.Asked, both-reads.Learnt) (conditions-at-at t) conditions-at.Post conditions-at-Inv-loop conditions-at-μ-loop
+conditions-at-slice-aggregate-insert t c = search (needs, c .before .before .before .before .before .loop .inv .most)
+
+conditions-at-insert-requires : (t : ℕ) → conditions-at-lts.Need-insert-requires (conjunction-at-reads.Asked, conjunction-at-reads.Learnt, insert-reads.Asked, insert-reads.Learnt, keep-reads.Asked, keep-reads.Learnt, atom-at-below t, atom-at.Post, condition-only-reads.Asked, condition-only-reads.Learnt, both-reads.Asked, both-reads.Learnt) (conditions-at-at t) conditions-at.Post conditions-at-Inv-loop conditions-at-μ-loop
+conditions-at-insert-requires t c κs = let i = c .before .before .before .before .before .loop .inv in let from = i .from in let few = i .few in let most = i .most in (omega arith, i .top, few, omega arith)
+
+conditions-at-same-length : (t : ℕ) → conditions-at-lts.Need-same-length (conjunction-at-reads.Asked, conjunction-at-reads.Learnt, insert-reads.Asked, insert-reads.Learnt, keep-reads.Asked, keep-reads.Learnt, atom-at-below t, atom-at.Post, condition-only-reads.Asked, condition-only-reads.Learnt, both-reads.Asked, both-reads.Learnt) (conditions-at-at t) conditions-at.Post conditions-at-Inv-loop conditions-at-μ-loop
 conditions-at-same-length t c = search needs
 
-conditions-at-returns : (t : ℕ) → conditions-at-lts.Need-returns (conjunction-at-reads.Asked, conjunction-at-reads.Learnt, insert-reads.Asked, insert-reads.Learnt, past-reads.Asked, past-reads.Learnt, atom-at-below t, atom-at.Post, condition-only-reads.Asked, condition-only-reads.Learnt, both-reads.Asked, both-reads.Learnt) (conditions-at-at t) conditions-at.Post conditions-at-Inv-loop conditions-at-μ-loop
-conditions-at-returns t c = (chain-ends (c .before .before .before .loop .inv) (c .before .before .conjunction-at .ensures) _ always-logical (c .enum-told .given .1), chain-place (c .before .before .before .loop .inv) _)
+conditions-at-returns : (t : ℕ) → conditions-at-lts.Need-returns (conjunction-at-reads.Asked, conjunction-at-reads.Learnt, insert-reads.Asked, insert-reads.Learnt, keep-reads.Asked, keep-reads.Learnt, atom-at-below t, atom-at.Post, condition-only-reads.Asked, condition-only-reads.Learnt, both-reads.Asked, both-reads.Learnt) (conditions-at-at t) conditions-at.Post conditions-at-Inv-loop conditions-at-μ-loop
+conditions-at-returns t c = let i = c .before .before .before .before .before .before .before .before .loop .inv in let w = c .before .before .insert .ensures in (chain-ends i (c .before .before .before .before .before .before .before .conjunction-at .ensures) _ always-logical (c .before .before .before .before .before .enum-told .given .1) (w .0) (w .1), chain-place i _ (w .1))
 
-conditions-at-enum-known-sign : (t : ℕ) → conditions-at-lts.Need-enum-known-sign (conjunction-at-reads.Asked, conjunction-at-reads.Learnt, insert-reads.Asked, insert-reads.Learnt, past-reads.Asked, past-reads.Learnt, atom-at-below t, atom-at.Post, condition-only-reads.Asked, condition-only-reads.Learnt, both-reads.Asked, both-reads.Learnt) (conditions-at-at t) conditions-at.Post conditions-at-Inv-loop conditions-at-μ-loop
+conditions-at-enum-known-sign : (t : ℕ) → conditions-at-lts.Need-enum-known-sign (conjunction-at-reads.Asked, conjunction-at-reads.Learnt, insert-reads.Asked, insert-reads.Learnt, keep-reads.Asked, keep-reads.Learnt, atom-at-below t, atom-at.Post, condition-only-reads.Asked, condition-only-reads.Learnt, both-reads.Asked, both-reads.Learnt) (conditions-at-at t) conditions-at.Post conditions-at-Inv-loop conditions-at-μ-loop
 conditions-at-enum-known-sign t c = search needs
 
-conditions-at-same-length-2 : (t : ℕ) → conditions-at-lts.Need-same-length-2 (conjunction-at-reads.Asked, conjunction-at-reads.Learnt, insert-reads.Asked, insert-reads.Learnt, past-reads.Asked, past-reads.Learnt, atom-at-below t, atom-at.Post, condition-only-reads.Asked, condition-only-reads.Learnt, both-reads.Asked, both-reads.Learnt) (conditions-at-at t) conditions-at.Post conditions-at-Inv-loop conditions-at-μ-loop
+conditions-at-same-length-2 : (t : ℕ) → conditions-at-lts.Need-same-length-2 (conjunction-at-reads.Asked, conjunction-at-reads.Learnt, insert-reads.Asked, insert-reads.Learnt, keep-reads.Asked, keep-reads.Learnt, atom-at-below t, atom-at.Post, condition-only-reads.Asked, condition-only-reads.Learnt, both-reads.Asked, both-reads.Learnt) (conditions-at-at t) conditions-at.Post conditions-at-Inv-loop conditions-at-μ-loop
 conditions-at-same-length-2 t c = search needs
 
-conditions-at-returns-2 : (t : ℕ) → conditions-at-lts.Need-returns-2 (conjunction-at-reads.Asked, conjunction-at-reads.Learnt, insert-reads.Asked, insert-reads.Learnt, past-reads.Asked, past-reads.Learnt, atom-at-below t, atom-at.Post, condition-only-reads.Asked, condition-only-reads.Learnt, both-reads.Asked, both-reads.Learnt) (conditions-at-at t) conditions-at.Post conditions-at-Inv-loop conditions-at-μ-loop
+conditions-at-returns-2 : (t : ℕ) → conditions-at-lts.Need-returns-2 (conjunction-at-reads.Asked, conjunction-at-reads.Learnt, insert-reads.Asked, insert-reads.Learnt, keep-reads.Asked, keep-reads.Learnt, atom-at-below t, atom-at.Post, condition-only-reads.Asked, condition-only-reads.Learnt, both-reads.Asked, both-reads.Learnt) (conditions-at-at t) conditions-at.Post conditions-at-Inv-loop conditions-at-μ-loop
 conditions-at-returns-2 t c = (chain-broken (c .before .before .before .before .loop .inv) (c .before .before .before .conjunction-at .ensures) (c .before .sign .given .1) _, broken-place (c .before .before .before .before .loop .inv) (c .before .before .before .conjunction-at .ensures) (c .before .sign .given .1))
 
-conditions-at-enum-known-sign-2 : (t : ℕ) → conditions-at-lts.Need-enum-known-sign-2 (conjunction-at-reads.Asked, conjunction-at-reads.Learnt, insert-reads.Asked, insert-reads.Learnt, past-reads.Asked, past-reads.Learnt, atom-at-below t, atom-at.Post, condition-only-reads.Asked, condition-only-reads.Learnt, both-reads.Asked, both-reads.Learnt) (conditions-at-at t) conditions-at.Post conditions-at-Inv-loop conditions-at-μ-loop
+conditions-at-enum-known-sign-2 : (t : ℕ) → conditions-at-lts.Need-enum-known-sign-2 (conjunction-at-reads.Asked, conjunction-at-reads.Learnt, insert-reads.Asked, insert-reads.Learnt, keep-reads.Asked, keep-reads.Learnt, atom-at-below t, atom-at.Post, condition-only-reads.Asked, condition-only-reads.Learnt, both-reads.Asked, both-reads.Learnt) (conditions-at-at t) conditions-at.Post conditions-at-Inv-loop conditions-at-μ-loop
 conditions-at-enum-known-sign-2 t c = search needs
 
-conditions-at-insert-requires : (t : ℕ) → conditions-at-lts.Need-insert-requires (conjunction-at-reads.Asked, conjunction-at-reads.Learnt, insert-reads.Asked, insert-reads.Learnt, past-reads.Asked, past-reads.Learnt, atom-at-below t, atom-at.Post, condition-only-reads.Asked, condition-only-reads.Learnt, both-reads.Asked, both-reads.Learnt) (conditions-at-at t) conditions-at.Post conditions-at-Inv-loop conditions-at-μ-loop
-conditions-at-insert-requires t c κs = search needs
+conditions-at-slice-aggregate-keep : (t : ℕ) → conditions-at-lts.Need-slice-aggregate-keep (conjunction-at-reads.Asked, conjunction-at-reads.Learnt, insert-reads.Asked, insert-reads.Learnt, keep-reads.Asked, keep-reads.Learnt, atom-at-below t, atom-at.Post, condition-only-reads.Asked, condition-only-reads.Learnt, both-reads.Asked, both-reads.Learnt) (conditions-at-at t) conditions-at.Post conditions-at-Inv-loop conditions-at-μ-loop
+conditions-at-slice-aggregate-keep t c = search (needs, c .before .before .before .before .before .before .loop .inv .most)
 
-conditions-at-past-requires : (t : ℕ) → conditions-at-lts.Need-past-requires (conjunction-at-reads.Asked, conjunction-at-reads.Learnt, insert-reads.Asked, insert-reads.Learnt, past-reads.Asked, past-reads.Learnt, atom-at-below t, atom-at.Post, condition-only-reads.Asked, condition-only-reads.Learnt, both-reads.Asked, both-reads.Learnt) (conditions-at-at t) conditions-at.Post conditions-at-Inv-loop conditions-at-μ-loop
-conditions-at-past-requires t c κs = search needs
+conditions-at-keep-requires : (t : ℕ) → conditions-at-lts.Need-keep-requires (conjunction-at-reads.Asked, conjunction-at-reads.Learnt, insert-reads.Asked, insert-reads.Learnt, keep-reads.Asked, keep-reads.Learnt, atom-at-below t, atom-at.Post, condition-only-reads.Asked, condition-only-reads.Learnt, both-reads.Asked, both-reads.Learnt) (conditions-at-at t) conditions-at.Post conditions-at-Inv-loop conditions-at-μ-loop
+conditions-at-keep-requires t c κs = let i = c .before .before .before .before .before .before .loop .inv in let most = i .most in (i .from, i .top, i .few, omega arith, omega arith)
 
-conditions-at-atom-at-requires : (t : ℕ) → conditions-at-lts.Need-atom-at-requires (conjunction-at-reads.Asked, conjunction-at-reads.Learnt, insert-reads.Asked, insert-reads.Learnt, past-reads.Asked, past-reads.Learnt, atom-at-below t, atom-at.Post, condition-only-reads.Asked, condition-only-reads.Learnt, both-reads.Asked, both-reads.Learnt) (conditions-at-at t) conditions-at.Post conditions-at-Inv-loop conditions-at-μ-loop
-conditions-at-atom-at-requires t c κs = let w = joined-facts (c .before .before .before .before .before .before .before .before .before .conjunction-at .ensures) (c .before .before .before .before .before .before .before .sign2 .given .1) in let i = c .before .before .before .before .before .before .before .before .before .before .loop .inv in search needs
+conditions-at-atom-at-requires : (t : ℕ) → conditions-at-lts.Need-atom-at-requires (conjunction-at-reads.Asked, conjunction-at-reads.Learnt, insert-reads.Asked, insert-reads.Learnt, keep-reads.Asked, keep-reads.Learnt, atom-at-below t, atom-at.Post, condition-only-reads.Asked, condition-only-reads.Learnt, both-reads.Asked, both-reads.Learnt) (conditions-at-at t) conditions-at.Post conditions-at-Inv-loop conditions-at-μ-loop
+conditions-at-atom-at-requires t c κs = let w = joined-facts (c .before .before .before .before .before .before .before .before .before .before .conjunction-at .ensures) (c .before .before .before .before .before .before .before .before .sign2 .given .1) in let i = c .before .before .before .before .before .before .before .before .before .before .before .loop .inv in let k = chain-kept i (c .before .before .before .before .keep .ensures) in (search needs, (w .1, k .top, search needs))
 
-conditions-at-condition-only-requires : (t : ℕ) → conditions-at-lts.Need-condition-only-requires (conjunction-at-reads.Asked, conjunction-at-reads.Learnt, insert-reads.Asked, insert-reads.Learnt, past-reads.Asked, past-reads.Learnt, atom-at-below t, atom-at.Post, condition-only-reads.Asked, condition-only-reads.Learnt, both-reads.Asked, both-reads.Learnt) (conditions-at-at t) conditions-at.Post conditions-at-Inv-loop conditions-at-μ-loop
+conditions-at-condition-only-requires : (t : ℕ) → conditions-at-lts.Need-condition-only-requires (conjunction-at-reads.Asked, conjunction-at-reads.Learnt, insert-reads.Asked, insert-reads.Learnt, keep-reads.Asked, keep-reads.Learnt, atom-at-below t, atom-at.Post, condition-only-reads.Asked, condition-only-reads.Learnt, both-reads.Asked, both-reads.Learnt) (conditions-at-at t) conditions-at.Post conditions-at-Inv-loop conditions-at-μ-loop
 conditions-at-condition-only-requires t c κs = c .before .before .atom-at .ensures .1 .inside
 
-conditions-at-enum-known-y : (t : ℕ) → conditions-at-lts.Need-enum-known-y (conjunction-at-reads.Asked, conjunction-at-reads.Learnt, insert-reads.Asked, insert-reads.Learnt, past-reads.Asked, past-reads.Learnt, atom-at-below t, atom-at.Post, condition-only-reads.Asked, condition-only-reads.Learnt, both-reads.Asked, both-reads.Learnt) (conditions-at-at t) conditions-at.Post conditions-at-Inv-loop conditions-at-μ-loop
+conditions-at-enum-known-y : (t : ℕ) → conditions-at-lts.Need-enum-known-y (conjunction-at-reads.Asked, conjunction-at-reads.Learnt, insert-reads.Asked, insert-reads.Learnt, keep-reads.Asked, keep-reads.Learnt, atom-at-below t, atom-at.Post, condition-only-reads.Asked, condition-only-reads.Learnt, both-reads.Asked, both-reads.Learnt) (conditions-at-at t) conditions-at.Post conditions-at-Inv-loop conditions-at-μ-loop
 conditions-at-enum-known-y t c = search needs
 
-conditions-at-same-length-3 : (t : ℕ) → conditions-at-lts.Need-same-length-3 (conjunction-at-reads.Asked, conjunction-at-reads.Learnt, insert-reads.Asked, insert-reads.Learnt, past-reads.Asked, past-reads.Learnt, atom-at-below t, atom-at.Post, condition-only-reads.Asked, condition-only-reads.Learnt, both-reads.Asked, both-reads.Learnt) (conditions-at-at t) conditions-at.Post conditions-at-Inv-loop conditions-at-μ-loop
+conditions-at-same-length-3 : (t : ℕ) → conditions-at-lts.Need-same-length-3 (conjunction-at-reads.Asked, conjunction-at-reads.Learnt, insert-reads.Asked, insert-reads.Learnt, keep-reads.Asked, keep-reads.Learnt, atom-at-below t, atom-at.Post, condition-only-reads.Asked, condition-only-reads.Learnt, both-reads.Asked, both-reads.Learnt) (conditions-at-at t) conditions-at.Post conditions-at-Inv-loop conditions-at-μ-loop
 conditions-at-same-length-3 t c = search needs
 
-conditions-at-returns-3 : (t : ℕ) → conditions-at-lts.Need-returns-3 (conjunction-at-reads.Asked, conjunction-at-reads.Learnt, insert-reads.Asked, insert-reads.Learnt, past-reads.Asked, past-reads.Learnt, atom-at-below t, atom-at.Post, condition-only-reads.Asked, condition-only-reads.Learnt, both-reads.Asked, both-reads.Learnt) (conditions-at-at t) conditions-at.Post conditions-at-Inv-loop conditions-at-μ-loop
-conditions-at-returns-3 t c = (chain-stops (c .before .before .before .before .before .before .before .before .before .before .before .before .before .before .before .before .before .loop .inv) (c .before .before .before .before .before .before .before .before .before .before .before .before .before .before .before .before .conjunction-at .ensures) (c .before .before .before .before .before .before .before .before .before .before .before .before .before .before .sign2 .given .1) _ (built-stop _ _ _ _ _ _ _ (builds-as _ _ _ _ _ _ _ (c .before .before .before .condition-only .ensures .0 _ _ _ _ (c .before .before .before .before .before .before .atom-at .ensures .0)) (atomic-is _ _)) (c .before .y .given .1)) _, stops-place (c .before .before .before .before .before .before .before .before .before .before .before .before .before .before .before .before .before .loop .inv) (c .before .before .before .before .before .before .before .before .before .before .before .before .before .before .before .before .conjunction-at .ensures) (c .before .before .before .before .before .before .before .before .before .before .before .before .before .before .sign2 .given .1) (onward-as (c .before .before .before .condition-only .ensures .1 _ _ (c .before .before .before .before .before .before .atom-at .ensures .1)) (c .before .y .given .1)))
+conditions-at-returns-3 : (t : ℕ) → conditions-at-lts.Need-returns-3 (conjunction-at-reads.Asked, conjunction-at-reads.Learnt, insert-reads.Asked, insert-reads.Learnt, keep-reads.Asked, keep-reads.Learnt, atom-at-below t, atom-at.Post, condition-only-reads.Asked, condition-only-reads.Learnt, both-reads.Asked, both-reads.Learnt) (conditions-at-at t) conditions-at.Post conditions-at-Inv-loop conditions-at-μ-loop
+conditions-at-returns-3 t c = let i = c .before .before .before .before .before .before .before .before .before .before .before .before .before .before .before .before .before .before .loop .inv in
+    let g = c .before .before .before .before .before .before .before .before .before .before .before .before .before .before .before .before .before .conjunction-at .ensures in
+    let z = c .before .before .before .before .before .before .before .before .before .before .before .before .before .before .before .sign2 .given .1 in
+    let a = c .before .before .before .before .before .before .atom-at .ensures in
+    let d = c .before .before .before .condition-only .ensures in
+    let y = c .before .y .given .1 in
+    (chain-stops i g z _ (built-stop _ _ _ _ _ _ _ (builds-as _ _ _ _ _ _ _ (d .0 _ _ _ _ (a .0)) (atomic-is _ _)) y) _, stops-place i g z (onward-as (d .1 _ _ (a .1)) y))
 
-conditions-at-enum-known-y-2 : (t : ℕ) → conditions-at-lts.Need-enum-known-y-2 (conjunction-at-reads.Asked, conjunction-at-reads.Learnt, insert-reads.Asked, insert-reads.Learnt, past-reads.Asked, past-reads.Learnt, atom-at-below t, atom-at.Post, condition-only-reads.Asked, condition-only-reads.Learnt, both-reads.Asked, both-reads.Learnt) (conditions-at-at t) conditions-at.Post conditions-at-Inv-loop conditions-at-μ-loop
+conditions-at-enum-known-y-2 : (t : ℕ) → conditions-at-lts.Need-enum-known-y-2 (conjunction-at-reads.Asked, conjunction-at-reads.Learnt, insert-reads.Asked, insert-reads.Learnt, keep-reads.Asked, keep-reads.Learnt, atom-at-below t, atom-at.Post, condition-only-reads.Asked, condition-only-reads.Learnt, both-reads.Asked, both-reads.Learnt) (conditions-at-at t) conditions-at.Post conditions-at-Inv-loop conditions-at-μ-loop
 conditions-at-enum-known-y-2 t c = search needs
 
-conditions-at-both-requires : (t : ℕ) → conditions-at-lts.Need-both-requires (conjunction-at-reads.Asked, conjunction-at-reads.Learnt, insert-reads.Asked, insert-reads.Learnt, past-reads.Asked, past-reads.Learnt, atom-at-below t, atom-at.Post, condition-only-reads.Asked, condition-only-reads.Learnt, both-reads.Asked, both-reads.Learnt) (conditions-at-at t) conditions-at.Post conditions-at-Inv-loop conditions-at-μ-loop
+conditions-at-both-requires : (t : ℕ) → conditions-at-lts.Need-both-requires (conjunction-at-reads.Asked, conjunction-at-reads.Learnt, insert-reads.Asked, insert-reads.Learnt, keep-reads.Asked, keep-reads.Learnt, atom-at-below t, atom-at.Post, condition-only-reads.Asked, condition-only-reads.Learnt, both-reads.Asked, both-reads.Learnt) (conditions-at-at t) conditions-at.Post conditions-at-Inv-loop conditions-at-μ-loop
 conditions-at-both-requires t c κs = search needs
 
-conditions-at-loop-less : (t : ℕ) → conditions-at-lts.Need-loop-less (conjunction-at-reads.Asked, conjunction-at-reads.Learnt, insert-reads.Asked, insert-reads.Learnt, past-reads.Asked, past-reads.Learnt, atom-at-below t, atom-at.Post, condition-only-reads.Asked, condition-only-reads.Learnt, both-reads.Asked, both-reads.Learnt) (conditions-at-at t) conditions-at.Post conditions-at-Inv-loop conditions-at-μ-loop
-conditions-at-loop-less t c = less-left (c .before .before .before .before .before .before .before .before .before .before .before .before .before .before .before .before .before .before .loop .inv) (c .before .before .before .before .before .before .before .before .before .before .before .before .before .before .before .before .before .conjunction-at .ensures) (c .before .before .before .before .before .before .before .before .before .before .before .before .before .before .before .sign2 .given .1) (onward-as (c .before .before .before .before .condition-only .ensures .1 _ _ (c .before .before .before .before .before .before .before .atom-at .ensures .1)) (c .before .before .y2 .given .1))
+conditions-at-loop-less : (t : ℕ) → conditions-at-lts.Need-loop-less (conjunction-at-reads.Asked, conjunction-at-reads.Learnt, insert-reads.Asked, insert-reads.Learnt, keep-reads.Asked, keep-reads.Learnt, atom-at-below t, atom-at.Post, condition-only-reads.Asked, condition-only-reads.Learnt, both-reads.Asked, both-reads.Learnt) (conditions-at-at t) conditions-at.Post conditions-at-Inv-loop conditions-at-μ-loop
+conditions-at-loop-less t c = less-left (c .before .before .before .before .before .before .before .before .before .before .before .before .before .before .before .before .before .before .before .loop .inv) (c .before .before .before .before .before .before .before .before .before .before .before .before .before .before .before .before .before .before .conjunction-at .ensures) (c .before .before .before .before .before .before .before .before .before .before .before .before .before .before .before .before .sign2 .given .1) (onward-as (c .before .before .before .before .condition-only .ensures .1 _ _ (c .before .before .before .before .before .before .before .atom-at .ensures .1)) (c .before .before .y2 .given .1))
 
-conditions-at-loop-again : (t : ℕ) → conditions-at-lts.Need-loop-again (conjunction-at-reads.Asked, conjunction-at-reads.Learnt, insert-reads.Asked, insert-reads.Learnt, past-reads.Asked, past-reads.Learnt, atom-at-below t, atom-at.Post, condition-only-reads.Asked, condition-only-reads.Learnt, both-reads.Asked, both-reads.Learnt) (conditions-at-at t) conditions-at.Post conditions-at-Inv-loop conditions-at-μ-loop
-conditions-at-loop-again t c = chain-more (c .before .before .before .before .before .before .before .before .before .before .before .before .before .before .before .before .before .before .loop .inv) (c .before .before .before .before .before .before .before .before .before .before .before .before .before .before .before .before .before .conjunction-at .ensures) (c .before .before .before .before .before .before .before .before .before .before .before .before .before .before .before .sign2 .given .1) (c .before .before .before .before .before .before .before .before .before .before .before .before .insert .ensures) (c .before .before .before .before .before .before .before .before .before .past .ensures) (c .before .before .before .before .before .before .before .before .before .before .before .before .insert .kept .0) (c .before .before .before .before .before .before .before .atom-at .kept .1 .1 .1 .0 ∙ c .before .before .before .before .before .before .before .before .before .before .before .before .insert .kept .0) (built-took _ _ _ _ _ _ _ (builds-as _ _ _ _ _ _ _ (c .before .before .before .before .condition-only .ensures .0 _ _ _ _ (c .before .before .before .before .before .before .before .atom-at .ensures .0)) (atomic-is _ _)) (c .before .before .y2 .given .1)) (onward-as (c .before .before .before .before .condition-only .ensures .1 _ _ (c .before .before .before .before .before .before .before .atom-at .ensures .1)) (c .before .before .y2 .given .1)) (c .both .ensures)
+conditions-at-loop-again : (t : ℕ) → conditions-at-lts.Need-loop-again (conjunction-at-reads.Asked, conjunction-at-reads.Learnt, insert-reads.Asked, insert-reads.Learnt, keep-reads.Asked, keep-reads.Learnt, atom-at-below t, atom-at.Post, condition-only-reads.Asked, condition-only-reads.Learnt, both-reads.Asked, both-reads.Learnt) (conditions-at-at t) conditions-at.Post conditions-at-Inv-loop conditions-at-μ-loop
+conditions-at-loop-again t c = let a = c .before .before .before .before .before .before .before .atom-at in
+    let k = c .before .before .before .before .before .before .before .before .before .before .before .before .keep in
+    let d = c .before .before .before .before .condition-only .ensures in
+    let y = c .before .before .y2 .given .1 in
+    chain-more (c .before .before .before .before .before .before .before .before .before .before .before .before .before .before .before .before .before .before .before .loop .inv) (c .before .before .before .before .before .before .before .before .before .before .before .before .before .before .before .before .before .before .conjunction-at .ensures) (c .before .before .before .before .before .before .before .before .before .before .before .before .before .before .before .before .sign2 .given .1) (k .ensures) (k .kept .1 .1 .1 .0) (k .kept .0) (a .kept .1 .1 .1 .0 ∙ k .kept .0) (built-took _ _ _ _ _ _ _ (builds-as _ _ _ _ _ _ _ (d .0 _ _ _ _ (a .ensures .0)) (atomic-is _ _)) y) (onward-as (d .1 _ _ (a .ensures .1)) y) (c .both .ensures)
 
 either-at-atom-at-requires : (t : ℕ) → either-at-lts.Need-atom-at-requires (atom-at-below t, atom-at.Post, conditions-at-below t, conditions-at.Post) (either-at-at t) either-at.Post
 either-at-atom-at-requires t c κs = search needs
@@ -263,8 +279,8 @@ pub +atom-at+conditions-at+either-at+first-at-spec : {M : Type 1} → statement 
       conjunction-at-reads.Learnt,
       insert-reads.Asked,
       insert-reads.Learnt,
-      past-reads.Asked,
-      past-reads.Learnt,
+      keep-reads.Asked,
+      keep-reads.Learnt,
       atom-at-below t,
       atom-at.Post,
       condition-only-reads.Asked,
@@ -279,14 +295,16 @@ pub +atom-at+conditions-at+either-at+first-at-spec : {M : Type 1} → statement 
     (conditions-at-loop-holds t)
     (conditions-at-conjunction-at-requires t)
     (conditions-at-enum-told t)
+    (conditions-at-slice-aggregate-insert t)
+    (conditions-at-insert-requires t)
     (conditions-at-same-length t)
     (conditions-at-returns t)
     (conditions-at-enum-known-sign t)
     (conditions-at-same-length-2 t)
     (conditions-at-returns-2 t)
     (conditions-at-enum-known-sign-2 t)
-    (conditions-at-insert-requires t)
-    (conditions-at-past-requires t)
+    (conditions-at-slice-aggregate-keep t)
+    (conditions-at-keep-requires t)
     (conditions-at-atom-at-requires t)
     (conditions-at-condition-only-requires t)
     (conditions-at-enum-known-y t)

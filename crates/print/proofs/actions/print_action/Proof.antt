@@ -3,7 +3,7 @@ use Rattle.writing.proofs.Written.{same-text}
 use Rattle.print.proofs.StatementLaws.{halt-text, skip-text, store-text, load-text, unlock-text, lock-text}
 use mathlib.Core.Path.{subst, _∙_}
 use lib.ListN.{length}
-use Rattle.reader.specs.declared.decoding.Action.{Action}
+use Rattle.field.specs.declared.decoding.Action.{Action}
 use Rattle.print.specs.Texts.{TextOf, EndsIn}
 use borrow.Author.Needs.{needs}
 use Rattle.print.proofs.actions.print_action.Statement.{statement}

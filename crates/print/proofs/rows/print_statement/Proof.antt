@@ -3,8 +3,8 @@ use Rattle.print.proofs.StatementLaws.{decoded-ends, statement-prints}
 use mathlib.Core.Path.{sym, subst}
 use Prim.Native.Nat.{_+_}
 use lib.ListN.{length}
-use Rattle.reader.specs.Decoded.{bodyEnd}
-use Rattle.reader.specs.declared.decoding.Statement.{Statement}
+use Rattle.field.specs.Decoded.{bodyEnd}
+use Rattle.field.specs.declared.decoding.Statement.{Statement}
 use Rattle.print.specs.Texts.{EndsIn}
 use borrow.Author.Needs.{needs}
 use Rattle.print.proofs.rows.print_statement.Statement.{statement}

@@ -4,8 +4,8 @@ use Prim.Native.Nat.{ℕ, _+_, _-_, _≤_, zero-le}
 use native.Mathlib.Omega.{arith}
 use native.Mathlib.Nat.{add-zero}
 use lib.Seq.{slice}
+use Rattle.field.specs.declared.outcome.End.the-variants.{At}
 use Rattle.reader.specs.Index.{targetsAt}
-use Rattle.reader.specs.declared.outcome.End.the-variants.{At}
 use Rattle.reader.proofs.closing.Laws.{targets-yes, targets-no, targets-done}
 use Rattle.reader.proofs.closing.targets_end.Statement.{statement}
 use Rattle.reader.proofs.closing.targets_end.Tie as tie

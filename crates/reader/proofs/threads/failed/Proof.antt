@@ -1,6 +1,6 @@
 -- `reader::threads::failed` meets its contract. Assumes nothing.
 use borrow.Author.Needs.{needs}
-use Rattle.reader.specs.Outcome.{failure}
+use Rattle.reader.specs.Index.{failure}
 use Rattle.reader.proofs.threads.failed.Statement.{statement}
 use Rattle.reader.proofs.threads.failed.Tie as tie
 

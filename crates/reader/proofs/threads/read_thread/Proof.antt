@@ -1,7 +1,7 @@
 -- `reader::threads::read_thread` meets its contract. Assumes nothing.
 use native.Mathlib.Omega.{arith}
 use borrow.Author.Needs.{needs}
-use Rattle.reader.proofs.fields.Laws.{open-room}
+use Rattle.field.proofs.fields.Laws.{open-room}
 use Rattle.reader.proofs.threads.Laws.{begun, close-room, thread-unopened, thread-registers, thread-statements, thread-unclosed, thread-whole}
 use Rattle.reader.proofs.threads.read_thread.Statement.{statement}
 use Rattle.reader.proofs.threads.read_thread.Tie as tie

@@ -1,10 +1,10 @@
 -- `record::act::act` meets its contract. Assumes nothing.
 use native.Mathlib.Omega.{arith}
-use Rattle.reader.specs.declared.decoding.Action.the-variants.{Halt, Skip, Assign, Branch, Store, Load, Unlock, Lock}
+use Rattle.field.specs.declared.decoding.Action.the-variants.{Halt, Skip, Assign, Branch, Store, Load, Unlock, Lock}
 use Rattle.reader.specs.Facts.{programIn}
 use Rattle.state.specs.Shape.{sizesOf}
-use Rattle.search.specs.Fetch.{namesOf}
-use Rattle.search.proofs.fetch.Asks.{fetched, sizes-are, skip-asks, assign-asks, branch-asks, store-asks, load-asks, unlock-asks, lock-asks}
+use Rattle.event.specs.Fetch.{namesOf}
+use Rattle.event.proofs.fetch.Asks.{fetched, sizes-are, skip-asks, assign-asks, branch-asks, store-asks, load-asks, unlock-asks, lock-asks}
 use Rattle.record.specs.Replay.{threadAt}
 use Rattle.record.proofs.act.Laws.{halted}
 use borrow.Author.Needs.{needs}

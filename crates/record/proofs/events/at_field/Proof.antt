@@ -1,7 +1,7 @@
 -- `record::events::at_field` meets its contract. Assumes nothing.
 use mathlib.Core.Path.{sym, ap}
 use Rattle.expression.specs.declared.parts.Check.{Check}
-use Rattle.record.specs.Follow.{atField}
+use Rattle.recorded.specs.Follow.{atField}
 use Rattle.record.specs.Replay.{unlessFault, replayOf}
 use borrow.Author.Needs.{needs}
 use Rattle.record.proofs.events.at_field.Statement.{statement}

@@ -6,9 +6,9 @@ use Prim.Native.Nat.{_-_, _*_, _≤_}
 use lib.ListN.{length}
 use Rattle.state.specs.Shape.{sizesOf}
 use Rattle.reader.specs.Facts.{programIn}
-use Rattle.record.specs.Follow.{followFrom}
+use Rattle.recorded.specs.Follow.{followFrom}
+use Rattle.recorded.proofs.Loop.{from-end}
 use Rattle.record.specs.Replay.{replayOf}
-use Rattle.record.proofs.Loop.{from-end}
 use Rattle.record.proofs.events.Laws.{turn-refused, turned}
 use Rattle.record.proofs.events.follow_events.Statement.{statement}
 use Rattle.record.proofs.events.follow_events.Tie as tie

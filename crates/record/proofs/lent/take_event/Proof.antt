@@ -43,12 +43,12 @@ use denote.Triple.Table.{entered, cited}
 use denote.Triple.Walked.{Stays, stay-ref, stay-dropped, walkOf, goes-ref, ends-at, walked, walk-meets}
 use denote.Triple.Clauses.{ensured, lasts, atExit}
 use denote.Exit.{yes}
+use Rattle.event.proofs.plan.Plan as P
+use Rattle.event.proofs.plan.Plan.Laws as P′
 use Rattle.record.specs.declared.replay.Replay.{Replay}
 use Rattle.record.specs.declared.replay.Replayed.{Replayed}
 use Rattle.expression.proofs.parts.Check as K
 use Rattle.expression.proofs.parts.Check.Laws as K′
-use Rattle.search.proofs.plan.Plan as P
-use Rattle.search.proofs.plan.Plan.Laws as P′
 use Rattle.record.proofs.replay.Replay as T
 use Rattle.record.proofs.replay.Replay.Laws as T′
 use Rattle.record.proofs.replay.Replayed as R

@@ -44,12 +44,12 @@ use denote.Triple.Walked.{Stays, stay-dropped, walkOf, ends-at, walked, walk-mee
 use denote.Triple.Clauses.{Lasts, ensured, atExit}
 use denote.Exit.{yes}
 use Rattle.expression.specs.declared.parts.Check.{Check}
+use Rattle.event.proofs.plan.Plan as P
+use Rattle.event.proofs.plan.Plan.Laws as P′
 use Rattle.record.specs.declared.replay.Replay.{Replay}
 use Rattle.record.specs.declared.replay.Replayed.{Replayed}
 use Rattle.expression.proofs.parts.Check as K
 use Rattle.expression.proofs.parts.Check.Laws as K′
-use Rattle.search.proofs.plan.Plan as P
-use Rattle.search.proofs.plan.Plan.Laws as P′
 use Rattle.record.proofs.replay.Replay as T
 use Rattle.record.proofs.replay.Replay.Laws as T′
 use Rattle.record.proofs.replay.Replayed as R

@@ -5,7 +5,7 @@ use Prim.Native.Nat.{ℕ}
 use mathlib.Core.List.{List, []}
 use lib.ListN.{length}
 use Rattle.rules.specs.Interval.{Interval}
-use Rattle.record.specs.Follow.{startValues}
+use Rattle.recorded.specs.Follow.{startValues}
 use Rattle.expression.specs.Evaluation.{regsOf}
 use Rattle.state.specs.Shape.{sizesOf}
 use Rattle.record.specs.Known.{valuesOf}

@@ -7,7 +7,7 @@ use mathlib.Core.List.{[]}
 use lib.ListN.{length, getD, length-set}
 use Rattle.rules.specs.Program.{Program}
 use Rattle.rules.specs.Format.{got}
-use Rattle.record.specs.Follow.{startValues, startThreads}
+use Rattle.recorded.specs.Follow.{startValues, startThreads}
 use Rattle.refusal.specs.Shape.{ruleOf}
 use Rattle.expression.specs.declared.parts.Check.{Check}
 use Rattle.expression.specs.Evaluation.{regsOf}

@@ -8,7 +8,7 @@ use lib.ListN.{length, drop, replicate, length-set}
 use Rattle.rules.specs.Format.{got}
 use Rattle.refusal.specs.Shape.{ruleOf}
 use Rattle.expression.specs.Evaluation.{regsOf}
-use Rattle.record.specs.Follow.{startValues}
+use Rattle.recorded.specs.Follow.{startValues}
 use Rattle.record.specs.Known.{valuesOf}
 use Rattle.record.specs.Replay.{zeroVal}
 use Rattle.record.specs.Start.{valueGot}

@@ -6,10 +6,10 @@ use Rattle.reader.specs.Index.{noEntry}
 use Rattle.reader.specs.Facts.{programIn, statementIn}
 use Rattle.state.specs.Shape.{sizesOf}
 use Rattle.state.proofs.Shape.{sizes-regs}
+use Rattle.event.proofs.fetch.Asks.{of-program}
 use Rattle.record.specs.Replay.{threadAt, stateOf}
 use Rattle.record.proofs.replay.Ownership.{four-of}
 use Rattle.record.proofs.step.Laws.{due-is, live-is, an-event, not-due, not-allowed}
-use Rattle.search.proofs.fetch.Asks.{of-program}
 use borrow.Author.Needs.{needs}
 use Rattle.record.proofs.step.event.Statement.{statement}
 use Rattle.record.proofs.step.event.Tie as tie

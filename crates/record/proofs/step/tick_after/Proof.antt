@@ -2,8 +2,8 @@
 use mathlib.Core.Path.{sym, ap, _∙_}
 use native.Mathlib.Omega.{arith}
 use Prim.Native.Nat.{ℕ, _+_, _%_}
-use Rattle.record.specs.Follow.{clockAt, tickAfter}
-use Rattle.record.proofs.Loop.{gap-only}
+use Rattle.recorded.specs.Follow.{clockAt, tickAfter}
+use Rattle.record.proofs.step.Laws.{gap-only}
 use borrow.Author.Needs.{needs}
 use Rattle.record.proofs.step.tick_after.Statement.{statement}
 use Rattle.record.proofs.step.tick_after.Tie as tie

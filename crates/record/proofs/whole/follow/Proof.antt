@@ -1,6 +1,6 @@
 -- `record::whole::follow` meets its contract. Assumes nothing.
 use mathlib.Core.Path.{_∙_}
-use Rattle.record.specs.Follow as F
+use Rattle.recorded.specs.Follow as F
 use Rattle.rules.specs.Format.{readSheet}
 use Rattle.record.proofs.whole.Start.{sheet-refused, promised}
 use borrow.Author.Needs.{needs}

@@ -1,9 +1,9 @@
 -- `record::whole::follow_index` meets its contract. Assumes nothing.
 use mathlib.Core.Path.{ap, _∙_}
-use Rattle.record.specs.Follow.{answerOf}
+use Rattle.event.proofs.PlanLaws.{ready}
+use Rattle.recorded.specs.Follow.{answerOf}
 use Rattle.state.proofs.Ownership.{sound-of}
 use Rattle.reader.specs.Facts.{programIn}
-use Rattle.search.proofs.WholeLaws.{ready}
 use Rattle.record.proofs.whole.Start.{starts-from, followed-is}
 use borrow.Author.Needs.{needs}
 use Rattle.record.proofs.whole.follow_index.Statement.{statement}

@@ -1,7 +1,6 @@
 -- `record::whole::in_record` meets its contract. Assumes nothing.
 use mathlib.Core.Bool.{false}
-use Rattle.record.specs.Follow as F
-use Rattle.record.specs.Follow.{refused}
+use Rattle.recorded.specs.Follow as F
 use borrow.Author.Needs.{needs}
 use Rattle.record.proofs.whole.in_record.Statement.{statement}
 use Rattle.record.proofs.whole.in_record.Tie as tie
@@ -10,7 +9,6 @@ number-of-requires : tie.Need-number-of-requires
 number-of-requires c κs = search needs
 
 returns : tie.Need-returns
-unfolding refused
 returns c = λ i. record { refusal = c .number-of .ensures i; file = F.theRecord; place = c .before .args .place; finished = false; tick = 0 }
 
 pub in-record-spec : {M : Type 1} → statement M

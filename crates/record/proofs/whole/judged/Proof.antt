@@ -1,7 +1,7 @@
 -- `record::whole::judged` meets its contract. Assumes nothing.
 use mathlib.Core.Path.{sym, ap, _∙_}
 use mathlib.Core.Bool.{Bool}
-use Rattle.record.specs.Follow.{leaves, answerOf}
+use Rattle.recorded.specs.Follow.{leaves, answerOf}
 use Rattle.expression.specs.declared.parts.Check.{Check}
 use Rattle.state.specs.Shape.{sizesOf}
 use Rattle.reader.specs.Facts.{programIn}

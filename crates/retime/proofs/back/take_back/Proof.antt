@@ -2,9 +2,9 @@
 use mathlib.Core.Path.{sym}
 use Rattle.rules.specs.Format.{readSheet}
 use Rattle.reader.proofs.Facts.{rejected}
+use Rattle.retimed.proofs.Change.{sheet-unread}
+use Rattle.retimed.proofs.TakeBack.{all-come-back}
 use Rattle.retime.specs.Shape.{changeOf}
-use Rattle.retime.proofs.Changing.{sheet-unread}
-use Rattle.retime.proofs.TakeBack.{all-come-back}
 use Rattle.retime.proofs.TakingBack.{back-given}
 use borrow.Author.Needs.{needs}
 use Rattle.retime.proofs.back.take_back.Statement.{statement}

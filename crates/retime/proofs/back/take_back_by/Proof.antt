@@ -1,8 +1,9 @@
 -- `retime::back::take_back_by` meets its contract. Assumes nothing.
 use mathlib.Core.Path.{sym, _∙_}
+use Rattle.retimed.proofs.Change.{statement-absent}
 use Rattle.retime.specs.Shape.{changeOf}
 use Rattle.retime.proofs.Finding.{found-there, found-none}
-use Rattle.retime.proofs.Changing.{statement-absent, may-write}
+use Rattle.retime.proofs.Changing.{may-write}
 use Rattle.retime.proofs.TakingBack.{back-given, found-off, found-since, found-back}
 use borrow.Author.Needs.{needs}
 use Rattle.retime.proofs.back.take_back_by.Statement.{statement}

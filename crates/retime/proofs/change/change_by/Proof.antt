@@ -1,7 +1,8 @@
 -- `retime::change::change_by` meets its contract. Assumes nothing.
 use mathlib.Core.Path.{sym, _∙_}
+use Rattle.retimed.proofs.Change.{statement-absent}
 use Rattle.retime.proofs.Finding.{found-there, found-none}
-use Rattle.retime.proofs.Changing.{statement-absent, may-write, found-made, found-off, given-refused}
+use Rattle.retime.proofs.Changing.{may-write, found-made, found-off, given-refused}
 use borrow.Author.Needs.{needs}
 use Rattle.retime.proofs.change.change_by.Statement.{statement}
 use Rattle.retime.proofs.change.change_by.Tie as tie

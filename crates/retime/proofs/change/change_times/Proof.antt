@@ -4,9 +4,10 @@ use mathlib.Core.Path.{sym}
 use Rattle.rules.specs.Format.{readSheet}
 use Rattle.rules.proofs.FieldAt.{all-below}
 use Rattle.reader.proofs.Facts.{rejected}
-use Rattle.retime.proofs.Changing.{sheet-unread, given-refused}
-use Rattle.retime.proofs.Claims.{reads-retimed}
-use Rattle.retime.proofs.TakeBack.{comes-back}
+use Rattle.retimed.proofs.Change.{sheet-unread}
+use Rattle.retimed.proofs.Claims.{reads-retimed}
+use Rattle.retimed.proofs.TakeBack.{comes-back}
+use Rattle.retime.proofs.Changing.{given-refused}
 use borrow.Author.Needs.{needs}
 use Rattle.retime.proofs.change.change_times.Statement.{statement}
 use Rattle.retime.proofs.change.change_times.Tie as tie

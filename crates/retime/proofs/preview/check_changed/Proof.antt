@@ -3,7 +3,7 @@ use mathlib.Core.Path.{sym, ap, _∙_}
 use lib.ListN.{length}
 use Rattle.rules.specs.Format.{Bytes, readSheet}
 use Rattle.reader.specs.Index.{indexOf}
-use Rattle.retime.specs.Retime.{changeTimes, checked}
+use Rattle.retimed.specs.Retime.{changeTimes, checked}
 use Rattle.retime.proofs.Previewing.{checks-changed, keeps-refusal}
 use borrow.Author.Needs.{needs}
 use Rattle.retime.proofs.preview.check_changed.Statement.{statement}

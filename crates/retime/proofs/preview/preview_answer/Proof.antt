@@ -5,7 +5,8 @@ use lib.Seq.{length-take-le}
 use Rattle.rules.specs.Refusal.{outputFull}
 use Rattle.rules.specs.Format.{readSheet}
 use Rattle.reader.proofs.Facts.{accepted, rejected}
-use Rattle.retime.proofs.Previewing.{preview-unread, preview-full, preview-room, as-refused}
+use Rattle.retimed.proofs.Preview.{preview-unread, preview-full, preview-room}
+use Rattle.retime.proofs.Previewing.{as-refused}
 use borrow.Author.Needs.{needs}
 use Rattle.retime.proofs.preview.preview_answer.Statement.{statement}
 use Rattle.retime.proofs.preview.preview_answer.Tie as tie

@@ -4,9 +4,9 @@ use Prim.Native.Nat.{ℕ}
 use lib.IntN.{pos}
 use lib.ListN.{length, replicate}
 use Rattle.rules.specs.Search.{Answer}
-use Rattle.retime.specs.Retime.{preview}
-use Rattle.retime.specs.Claims.{HoldsRetimed}
-use Rattle.retime.proofs.Claims.{accepted-preview}
+use Rattle.retimed.specs.Retime.{preview}
+use Rattle.retimed.specs.Claims.{HoldsRetimed}
+use Rattle.retimed.proofs.Claims.{accepted-preview}
 use borrow.Author.Needs.{needs}
 use Rattle.retime.proofs.preview.preview_times.Statement.{statement}
 use Rattle.retime.proofs.preview.preview_times.Tie as tie

@@ -2,7 +2,7 @@
 use native.Mathlib.Omega.{arith}
 use lib.ListN.{length-set, set}
 use Prim.Native.Nat.{_+_}
-use Rattle.retime.specs.Retime.{retimed}
+use Rattle.retimed.specs.Retime.{retimed}
 use borrow.Author.Needs.{needs}
 use Rattle.retime.proofs.times.write_times.Statement.{statement}
 use Rattle.retime.proofs.times.write_times.Tie as tie

@@ -5,7 +5,7 @@ use lib.ListN.{length}
 use Rattle.rules.specs.Base.{nil, _&_}
 use Rattle.writing.specs.Out.{outOf, write}
 use Rattle.writing.proofs.Written.{then-writes}
-use Rattle.retime.specs.Retime.{Changed}
+use Rattle.retimed.specs.Retime.{Changed}
 use Rattle.retime_main.specs.Line.{changeText, written}
 use Rattle.retime_main.proofs.Laws.{text-fits}
 use borrow.Author.Needs.{needs}

@@ -5,7 +5,7 @@ use lib.ListN.{length}
 use Rattle.rules.specs.Base.{nil, _&_}
 use Rattle.writing.specs.Out.{outOf, write}
 use Rattle.writing.proofs.Written.{then-writes}
-use Rattle.retime.specs.TakeBack.{TakenBack}
+use Rattle.retimed.specs.TakeBack.{TakenBack}
 use Rattle.retime_main.specs.Line.{backText, writtenBack}
 use Rattle.writing.proofs.Line.{number-then, last-number}
 use Rattle.retime_main.proofs.Laws.{text-fits}

@@ -1,67 +1,48 @@
 -- `scan::output::insert` meets its contract. Assumes nothing.
 use borrow.Author.Needs.{needs}
-use mathlib.Core.Path.{_≡_, refl}
-use native.Mathlib.Omega.{arith}
-use Prim.Native.Nat.{_≤_, _<_}
-use lib.ListN.{length, length-set}
-use Rattle.scan.proofs.WriteLaws.{Shifted, shift-none, shift-more, shift-end}
+use Rattle.scan.proofs.WriteLaws.{inserted-full, inserted-none, inserted-moved}
 use Rattle.scan.proofs.output.insert.Statement.{statement}
 use Rattle.scan.proofs.output.insert.Tie as tie
 
-abbrev Inv-loop : tie.InvT-loop
-Inv-loop out₀ at end b i₀ out i = (Shifted out₀ end i out) × (at ≤ i) × (i ≤ end) × (end < length out₀) × (length out ≡ length out₀)
+past-requires : tie.Need-past-requires
+past-requires c κs = search needs
 
-abbrev μ-loop : tie.MeasureT-loop
-μ-loop out₀ at end b i₀ out i = i
+add-if1 : tie.Need-add-if1
+add-if1 c = search needs
 
-returns : tie.Need-returns Inv-loop μ-loop
-returns c = λ h. absurd (let g = c .if1 .taken in omega arith)
+returns : tie.Need-returns
+returns c = let arg = c .before .before .before .before .args in (inserted-full (arg .out .now) (arg .at) (arg .end) (arg .codes .now) (arg .count) (c .if1 .taken), search needs)
 
-loop-holds : tie.Need-loop-holds Inv-loop μ-loop
-loop-holds c = (shift-none _ _ (c .if1 .left), search needs, search needs, c .if1 .left, refl)
+returns-2 : tie.Need-returns-2
+returns-2 c =
+    let start = c .before .before .before .before .before in
+    let arg = start .args in
+    (inserted-none (arg .out .now) (arg .at) (arg .end) (arg .codes .now) (arg .count) (start .pre .0) (c .before .if1 .left) (c .if2 .taken), search needs)
 
-sub-out : tie.Need-sub-out Inv-loop μ-loop
-sub-out c = search needs
+shift-requires : tie.Need-shift-requires
+shift-requires c κs = search needs
 
-slice-read-out : tie.Need-slice-read-out Inv-loop μ-loop
-slice-read-out c = search needs
+put-codes-requires : tie.Need-put-codes-requires
+put-codes-requires c κs = search needs
 
-slice-write-out : tie.Need-slice-write-out Inv-loop μ-loop
-slice-write-out c = search needs
-
-sub-i : tie.Need-sub-i Inv-loop μ-loop
-sub-i c = search needs
-
-loop-less : tie.Need-loop-less Inv-loop μ-loop
-loop-less c = search needs
-
-loop-again : tie.Need-loop-again Inv-loop μ-loop
-loop-again c = (shift-more _ _ _ _ (let g = c .before .loop-test .taken in omega arith) (c .before .before .loop .inv .2) (c .before .before .loop .inv .3) (c .before .before .loop .inv .0), search needs, search needs, c .before .before .loop .inv .3, simp length-set (c .before .before .loop .inv .4))
-
-slice-write-out-2 : tie.Need-slice-write-out-2 Inv-loop μ-loop
-slice-write-out-2 c = search needs
-
-same-length : tie.Need-same-length Inv-loop μ-loop
+same-length : tie.Need-same-length
 same-length c = search needs
 
-returns-2 : tie.Need-returns-2 Inv-loop μ-loop
-returns-2 c = let arg = c .before .before .before .args in
-    λ h. shift-end _ _ (c .before .loop .i) (arg .at) (arg .b) (let g = c .loop-test .left in let i = c .before .loop .inv .1 in omega arith) (c .before .before .before .pre) (c .before .loop .inv .3) (c .before .loop .inv .0)
+returns-3 : tie.Need-returns-3
+returns-3 c =
+    let start = c .before .before .before .before .before .before .before .before .before .before .before .before .before in
+    let arg = start .args in
+    (inserted-moved (arg .out .now) (arg .at) (arg .end) (arg .codes .now) (arg .count) (start .pre .0) (c .before .before .before .before .before .before .before .before .before .if1 .left) (c .before .before .before .before .before .before .shift .ensures) (c .before .before .put-codes .ensures), search needs)
 
 pub insert-spec : {M : Type 1} → statement M
 insert-spec =
     tie.close
     (tie.spec
-    Inv-loop
-    μ-loop
+    past-requires
+    add-if1
     returns
-    loop-holds
-    sub-out
-    slice-read-out
-    slice-write-out
-    sub-i
-    loop-less
-    loop-again
-    slice-write-out-2
+    returns-2
+    shift-requires
+    put-codes-requires
     same-length
-    returns-2)
+    returns-3)

@@ -7,9 +7,9 @@ use Rattle.state.specs.Cells.{decode}
 use Rattle.rules.specs.Constants.{mostThreads}
 use Rattle.state.specs.declared.Clock.{Clock}
 use Rattle.state.proofs.Slot.{decode-sound}
+use Rattle.field.specs.Ticks.{tick}
 use Rattle.reader.specs.Facts.{programIn, statementIn}
-use Rattle.search.specs.Fetch.{namesOf, Fetches}
-use Rattle.reader.specs.Ticks.{tick}
+use Rattle.event.specs.Fetch.{namesOf, Fetches}
 use Rattle.search.specs.Survey.{addThread, never, EarliestFrom}
 use Rattle.search.proofs.survey.Laws.{fetched-lock, Surveyed, survey-start, survey-again, survey-done, earliest-start, earliest-again}
 use Rattle.search.proofs.survey.survey_threads.Statement.{statement}

@@ -3,7 +3,7 @@ use mathlib.Core.Path.{sym, ap, subst, _∙_}
 use mathlib.Core.Bool.{not}
 use Prim.Native.Nat.{ℕ}
 use Rattle.rules.specs.Lock.{mayTake}
-use Rattle.reader.specs.declared.decoding.Action.{Action}
+use Rattle.field.specs.declared.decoding.Action.{Action}
 use Rattle.state.specs.Cells.{decode}
 use Rattle.state.specs.Shape.{ownerOf}
 use Rattle.search.specs.Survey.{LockThere, waitsAt}

@@ -1,6 +1,6 @@
 -- `search::survey::with_clock` meets its contract. Assumes nothing.
 use borrow.Author.Needs.{needs}
-use Rattle.reader.specs.Ticks.{tick}
+use Rattle.field.specs.Ticks.{tick}
 use Rattle.search.proofs.survey.with_clock.Statement.{statement}
 use Rattle.search.proofs.survey.with_clock.Tie as tie
 

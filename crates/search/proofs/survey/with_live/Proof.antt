@@ -5,7 +5,7 @@ use mathlib.Core.Bool.{Bool, true, false, _&&_}
 use Prim.Native.Nat.{min}
 use borrow.Author.Needs.{needs}
 use Rattle.rules.specs.Base.{if_then_else_}
-use Rattle.reader.specs.Ticks.{tick}
+use Rattle.field.specs.Ticks.{tick}
 use Rattle.search.proofs.survey.with_live.Statement.{statement}
 use Rattle.search.proofs.survey.with_live.Tie as tie
 

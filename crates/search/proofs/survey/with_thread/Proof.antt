@@ -1,6 +1,6 @@
 -- `search::survey::with_thread` meets its contract. Assumes nothing.
 use mathlib.Core.Path.{sym, _∙_}
-use Rattle.reader.specs.Ticks.{tick}
+use Rattle.field.specs.Ticks.{tick}
 use Rattle.search.specs.Survey.{addLive, addThread}
 use borrow.Author.Needs.{needs}
 use Rattle.search.proofs.survey.with_thread.Statement.{statement}

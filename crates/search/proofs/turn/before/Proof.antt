@@ -1,5 +1,7 @@
 -- `search::turn::before` meets its contract. Assumes nothing.
 use Rattle.rules.specs.Search.{effect}
+use Rattle.event.specs.Fetch.{namesOf, Fetches}
+use Rattle.event.specs.declared.act.Event.{Event}
 use Rattle.search.proofs.EventLaws.{act-asks, event-makes, acts-length, no-event}
 use mathlib.Core.Path.{refl, sym, ap, subst, _∙_}
 use Prim.Native.Nat.{ℕ, max}
@@ -10,9 +12,7 @@ use Rattle.state.specs.Shape.{sizesOf, stateOf, threadOf}
 use Rattle.state.specs.Access.{threadAt}
 use Rattle.state.specs.Cells.{decode}
 use Rattle.state.proofs.Slot.{decode-sound}
-use Rattle.search.specs.Fetch.{namesOf, Fetches}
 use Rattle.search.specs.Turn.{Makes}
-use Rattle.search.specs.declared.act.Event.{Event}
 use borrow.Author.Needs.{needs}
 use Rattle.search.proofs.turn.before.Statement.{statement}
 use Rattle.search.proofs.turn.before.Tie as tie

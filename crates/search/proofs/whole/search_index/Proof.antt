@@ -1,5 +1,6 @@
 -- `search::whole::search_index` meets its contract. Assumes nothing.
-use Rattle.search.proofs.WholeLaws.{ready, from-first}
+use Rattle.event.proofs.PlanLaws.{ready}
+use Rattle.search.proofs.WholeLaws.{from-first}
 use borrow.Author.Needs.{needs}
 use Rattle.search.proofs.whole.search_index.Statement.{statement}
 use Rattle.search.proofs.whole.search_index.Tie as tie

@@ -1,0 +1,2 @@
+-- What the proof of `read_statements` cites.
+pub mod Laws

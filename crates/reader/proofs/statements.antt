@@ -1,4 +1,0 @@
--- What the proofs of several functions of `statements` cite.
-pub mod Laws
-pub mod Codes
-pub mod Places

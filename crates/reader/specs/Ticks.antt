@@ -1,6 +1,0 @@
--- A number of ticks as the code's Time.
-use Prim.Native.Nat.{ℕ}
-use Rattle.reader.specs.declared.ticks.Time.{Time}
-
-abbrev pub tick : ℕ → Time
-tick n = record { 0 = n }
