@@ -127,4 +127,5 @@ each_map f (◌&◌ {x} p ps) = f x p & each_map f ps
 -- an element that has both properties
 pub both_of_lem : {A : Type 0} {P Q : A → Type 0} {xs : List A} → Each P xs → Some Q xs → (x : A) × (P x × Q x)
 both_of_lem (◌&◌ {x} p ps) (here q) = (x, (p, q))
+both_of_lem nil x3 = elim x3 [ ]
 both_of_lem (p & ps) (there s) = both_of_lem ps s
