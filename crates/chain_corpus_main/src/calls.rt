@@ -10,7 +10,7 @@ const TAKES_BACK: u64 = 1;
 
 // What came of the steps so far: whether all were read, their numbers are the stated ones, and so is the sheet after each; and how many
 // steps there were, with those of the chains before.
-#[derive(Drop)]
+#[derive(Clone, Copy)]
 pub(crate) struct Verdict {
     pub(crate) read: bool,
     pub(crate) numbers: bool,

@@ -4,6 +4,8 @@
 //
 // Some chains are planted, so that the comparison itself is tried: one of their numbers is wrong, or what a step makes of the sheet. It
 // prints how many there are of each, and how many of these it noticed.
+#![tactic(auto)]
+
 mod calls;
 mod step;
 
@@ -21,7 +23,7 @@ const WRONG_SHEET: u64 = 2;
 
 // How many chains are right, their steps, and how many of these chains differ; how many have a wrong number or a wrong sheet, and how many
 // of these were noticed; and whether the reading ended before the last.
-#[derive(Drop)]
+#[derive(Clone, Copy)]
 struct Tally {
     chains: u64,
     steps: u64,

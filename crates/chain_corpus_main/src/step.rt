@@ -9,7 +9,7 @@ pub(crate) const BYTES: usize = 107;
 
 // What is asked: of a change its thread, its statement and its times, least and greatest, in the places of the old ones; of a change
 // taken back all of it. Then what is stated of the answer, and which bytes, `count` of four, the sheet has from `at` on after the step.
-#[derive(Drop)]
+#[derive(Clone, Copy)]
 pub(crate) struct Step {
     pub(crate) kind: u64,
     pub(crate) asked: Change,

@@ -19,7 +19,7 @@ const GREATEST_BUDGET: u64 = 10000000;
 
 // The place behind the three lines, the start of the line that is at fault if their field is, and whether their numbers fit; or the
 // place of the first byte that cannot go on.
-#[derive(Drop)]
+#[derive(Clone, Copy)]
 pub(crate) enum Head {
     Took(usize, usize, bool),
     Stop(usize),

@@ -1,4 +1,6 @@
 // From text to sheet (02, ticket 2).
+#![tactic(auto)]
+
 mod head; // limit, budget and label
 mod whole; // all lines
 mod output; // the lent buffer at the end

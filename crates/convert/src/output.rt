@@ -6,7 +6,7 @@ ghost use Rattle.convert.specs.Shape.{conversion_of, refused_by};
 use writing::{put_bytes, put_zeros};
 
 // Refusal 0: so many bytes were written. Another: the place in the text, and zeros.
-#[derive(Drop)]
+#[derive(Clone, Copy)]
 pub struct Conversion {
     pub refusal: u32,
     pub place: usize,

@@ -15,7 +15,7 @@ use scan::past;
 
 // The end of what is written; how many bytes it would be with every number that is too big; of the field at the target the start of
 // its line and whether its numbers fit, 0 and true where there is none.
-#[derive(Drop)]
+#[derive(Clone, Copy)]
 pub(crate) struct Written {
     pub end: usize,
     pub whole: usize,
@@ -24,7 +24,7 @@ pub(crate) struct Written {
 }
 
 // The same of a text that was read; or the place of the first byte that cannot go on.
-#[derive(Drop)]
+#[derive(Clone, Copy)]
 pub(crate) enum Made {
     Took(usize, usize, usize, bool),
     Stop(usize),

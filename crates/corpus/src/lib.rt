@@ -1,4 +1,6 @@
 // What is shared by the programs that compare the library with a corpus: numbers in bytes, counting, reading and printing.
+#![tactic(auto)]
+
 ghost use Rattle.std.specs.Prelude.{◌≡◌, true, false, cond, ◌&&◌, ◌+◌, ◌*◌, ◌<◌, ◌≤◌, ltb, pos, length, drop, replicate};
 
 // No count goes beyond this, so that none wraps.

@@ -4,6 +4,8 @@
 //
 // Some entries are planted, so that the comparison itself is tried: one of their numbers is wrong, or the program changes a number
 // of the buffer after the call. It prints how many there are of both, and how many of these it noticed.
+#![tactic(auto)]
+
 use corpus::{FILLED, both, counted, fill, filled, four, put, read_front, two, wide, zeros};
 use label::{Answer, check};
 
@@ -20,7 +22,7 @@ const LAST: u64 = 3;
 const BEHIND: u64 = 4;
 
 // An entry but for its sheet's bytes.
-#[derive(Drop)]
+#[derive(Clone, Copy)]
 struct Front {
     bytes: usize,
     lent: usize,
@@ -33,7 +35,7 @@ struct Front {
 }
 
 // What came of an entry; one that the corpus does not hold whole was not read.
-#[derive(Drop)]
+#[derive(Clone, Copy)]
 struct Verdict {
     read: bool,
     differs: bool,
@@ -41,7 +43,7 @@ struct Verdict {
 }
 
 // What came of the entries: of those that are as they should be, of those with a wrong number, of those with a changed buffer.
-#[derive(Drop)]
+#[derive(Clone, Copy)]
 struct Tally {
     read: u64,
     compared: u64,

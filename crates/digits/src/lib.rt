@@ -1,9 +1,11 @@
 // Numbers that a program's arguments write in decimal digits.
+#![tactic(auto)]
+
 ghost use Rattle.std.specs.Prelude.{◌≡◌, ◌≤◌};
 ghost use Rattle.digits.specs.Digits.{top, cut, with_digit, number_in};
 
 // A number, or a word that writes none.
-#[derive(Drop)]
+#[derive(Clone, Copy)]
 pub enum Number {
     Is(u64),
     Wrong,

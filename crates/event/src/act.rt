@@ -27,7 +27,7 @@ use refusal::Refusal;
 use state::{NUMBERS_PER_STATE, at_of, register_of, registers_of, variable_of};
 
 // An event of thread t, which has n registers, between two ticks.
-#[derive(Drop)]
+#[derive(Clone, Copy)]
 pub struct Event {
     pub thread: usize,
     pub registers: usize,
@@ -35,7 +35,7 @@ pub struct Event {
     pub to: Time,
 }
 
-#[derive(Drop)]
+#[derive(Clone, Copy)]
 pub enum Acted {
     Fault(Refusal),
     Height(usize),

@@ -11,7 +11,7 @@ use crate::plan::Plan;
 use field::{Action, Time, statement_at};
 use reader::{MOST_PLACES, MOST_STATEMENTS};
 
-#[derive(Drop)]
+#[derive(Clone, Copy)]
 pub struct Fetched {
     pub place: usize,
     pub least: Time,

@@ -1,5 +1,7 @@
 // The event of one thread of a state: the statement at which it stands is fetched, and the states that follow go on a stack in the lent
 // buffer.
+#![tactic(auto)]
+
 pub mod plan; // what a search keeps of the index
 pub mod fetch; // the statement at which a thread stands
 mod push; // new states on top of the stack

@@ -3,7 +3,7 @@ use field::Time;
 use reader::MOST_THREADS;
 use reader::threads::ThreadEntry;
 
-#[derive(Drop)]
+#[derive(Clone, Copy)]
 pub struct Plan {
     pub threads: usize,
     pub limit: Time,

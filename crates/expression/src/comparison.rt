@@ -16,7 +16,7 @@ use interval::{Reading, Span, Val};
 // ---- a side of a comparison
 
 // A side that is one register, by its number, or any other expression.
-#[derive(Drop)]
+#[derive(Clone, Copy)]
 pub(crate) enum Side {
     Register(usize),
     Other,
@@ -48,7 +48,7 @@ pub(crate) fn side_at(s: &[u8], at: usize, end: usize) -> Side
 
 // ---- registers cut
 
-#[derive(Drop)]
+#[derive(Clone, Copy)]
 enum Cut {
     Meet(Span),
     AtMost(Val),
@@ -66,7 +66,7 @@ fn cut_span(c: Cut, k: Span) -> Span
 }
 
 // The registers that are left, unless narrowing emptied the state: then regs says nothing.
-#[derive(Drop)]
+#[derive(Clone, Copy)]
 pub struct Narrowed {
     pub empty: bool,
     pub regs: [Span; 8],

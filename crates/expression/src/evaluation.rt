@@ -11,7 +11,7 @@ use crate::number::{index, int32_at};
 use interval::{Reading, Span};
 
 // A reading and the place behind the expression; Unread where no expression stands, of which `read_arith` has the refusal.
-#[derive(Drop)]
+#[derive(Clone, Copy)]
 pub(crate) enum Evaluated {
     Read(Reading, usize),
     Unread,

@@ -5,7 +5,7 @@ ghost use Rattle.expression.specs.Kind.{arith_kind_of, condition_kind_of};
 
 use interval::Operator;
 
-#[derive(Drop)]
+#[derive(Clone, Copy)]
 pub enum ArithKind {
     Constant,
     Register,
@@ -39,13 +39,13 @@ pub fn arith_at(s: &[u8], at: usize, end: usize) -> ArithKind
     }
 }
 
-#[derive(Drop)]
+#[derive(Clone, Copy)]
 pub enum Relation {
     Equal,
     Less,
 }
 
-#[derive(Drop)]
+#[derive(Clone, Copy)]
 pub enum ConditionKind {
     Always,
     Never,

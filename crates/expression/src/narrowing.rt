@@ -17,7 +17,7 @@ use interval::Span;
 
 // Where read, what narrowing by the condition at a place leaves, and the place behind it; where not, no condition stands
 // there.
-#[derive(Drop)]
+#[derive(Clone, Copy)]
 pub(crate) struct NarrowedAt {
     pub read: bool,
     pub empty: bool,

@@ -14,7 +14,7 @@ use crate::kind::{ConditionKind, Relation, condition_at};
 use interval::{Reading, Span};
 use refusal::Refusal;
 
-#[derive(Drop)]
+#[derive(Clone, Copy)]
 pub enum Check {
     Passed,
     Fault(Refusal),
@@ -22,7 +22,7 @@ pub enum Check {
 
 // Where read, the check of a condition and the place behind it; where not, no condition stands there, and check and next
 // say nothing.
-#[derive(Drop)]
+#[derive(Clone, Copy)]
 pub(crate) struct Checked {
     pub read: bool,
     pub check: Check,

@@ -10,7 +10,7 @@ use crate::number::index;
 use refusal::Refusal;
 
 // The place behind what was read, or the refusal.
-#[derive(Drop)]
+#[derive(Clone, Copy)]
 pub enum Parsed {
     Good(usize),
     Refused(Refusal),

@@ -37,7 +37,7 @@ pub fn assigned_value(s: &[u8], at: usize, end: usize, n: usize, regs: [Span; 8]
 
 // The two ways of a branch: the registers with which it is taken, and with which it is not. Where the check is a fault, the
 // statement has no result.
-#[derive(Drop)]
+#[derive(Clone, Copy)]
 pub struct Branch {
     pub check: Check,
     pub yes: Narrowed,

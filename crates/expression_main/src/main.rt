@@ -1,4 +1,6 @@
 // Expressions and conditions executed: each case prints a line, and `stdout` has the lines as worked out by hand.
+#![tactic(auto)]
+
 use expression::{Check, Narrowed, Parsed};
 use interval::{Reading, Span, Val};
 use refusal::Refusal;

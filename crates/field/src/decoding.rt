@@ -7,7 +7,7 @@ use crate::fields::{byte_at, length_at};
 use crate::ticks::{Time, time16_at};
 
 // What a statement does. An expression stands from `at` up to `end`.
-#[derive(Drop)]
+#[derive(Clone, Copy)]
 pub enum Action {
     Halt,
     Skip,
@@ -33,7 +33,7 @@ pub enum Action {
     Lock(usize),
 }
 
-#[derive(Drop)]
+#[derive(Clone, Copy)]
 pub struct Statement {
     pub least: Time,
     pub greatest: Time,

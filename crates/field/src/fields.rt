@@ -127,7 +127,7 @@ pub fn any_field_end(s: &[u8], at: usize, tag: u8) -> End
 // ---- tag 1
 
 // The header's numbers.
-#[derive(Drop)]
+#[derive(Clone, Copy)]
 pub struct Header {
     pub limit: Time,
     pub budget: u32,

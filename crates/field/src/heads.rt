@@ -13,7 +13,7 @@ const LENGTH: usize = 1;
 const HEAD: usize = 3;
 
 // Whether the sheet has a field's head whole; its tag, its length, and the place of its body.
-#[derive(Drop)]
+#[derive(Clone, Copy)]
 pub(crate) struct Field {
     pub whole: bool,
     pub tag: u8,

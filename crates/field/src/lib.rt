@@ -1,5 +1,7 @@
 // Fields, each read where it stands, in a sheet or in another file of fields: the place behind it, or its first fault; and what the
 // field of a statement says.
+#![tactic(auto)]
+
 pub mod ticks; // ticks of a clock
 pub mod outcome; // what a reader gives
 mod heads; // the head of a field: its tag and its length

@@ -11,7 +11,7 @@ use expression::{DEEPEST, Parsed, read_arith, read_condition};
 use refusal::Refusal;
 
 // What a thread's statements may name: its registers, and the sheet's variables and locks.
-#[derive(Drop)]
+#[derive(Clone, Copy)]
 pub struct Names {
     pub regs: usize,
     pub vars: usize,

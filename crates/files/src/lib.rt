@@ -1,5 +1,7 @@
 // Files that a program's arguments name. Why one cannot be opened or read is told on standard error. No contract can say what the
 // system answers: it is named as free.
+#![tactic(auto)]
+
 ghost use Rattle.std.specs.Prelude.{◌≡◌, ◌+◌, ◌≤◌, length};
 ghost use Rattle.rules.specs.Base.{Free};
 ghost use Rattle.rules.specs.Constants.{longest_sheet};

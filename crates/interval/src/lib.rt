@@ -1,5 +1,7 @@
 // Interval arithmetic on the signed 32-bit values. Every function takes any two spans, also one whose low is above its high,
 // and gives what the rules give for the same intervals.
+#![tactic(auto)]
+
 ghost use Rattle.std.specs.Prelude.{◌≡◌};
 ghost use Rattle.std.proofs.Math.IntN.{suc_ℤ, pred_ℤ};
 ghost use Rattle.std.specs.Int.Signed.{le_z, lt_z};
@@ -22,24 +24,24 @@ mod multiplication; // product
 mod division; // quotient
 
 // A value of a register or a variable.
-#[derive(Drop)]
+#[derive(Clone, Copy)]
 pub struct Val(pub i32);
 
 // The values from low to high, both included: none where low is above high.
-#[derive(Drop)]
+#[derive(Clone, Copy)]
 pub struct Span {
     pub low: Val,
     pub high: Val,
 }
 
 // The span of an expression, or the refusal that stands in its way.
-#[derive(Drop)]
+#[derive(Clone, Copy)]
 pub enum Reading {
     Is(Span),
     Fault(Refusal),
 }
 
-#[derive(Drop)]
+#[derive(Clone, Copy)]
 pub enum Operator {
     Plus,
     Minus,
@@ -48,7 +50,7 @@ pub enum Operator {
 }
 
 // A result before its range is tested. A struct and no plain i64: contracts then speak of its number, and not of its bits.
-#[derive(Drop)]
+#[derive(Clone, Copy)]
 struct Wide(i64);
 
 // ---- the span round four results

@@ -1,4 +1,6 @@
 // The call that checks a sheet: a sheet and a lent work buffer in, five numbers out, and the buffer all zeros.
+#![tactic(auto)]
+
 ghost use Rattle.std.specs.Prelude.{◌≡◌, ◌&&◌, leb, length};
 ghost use Rattle.rules.specs.Base.{at_front};
 ghost use Rattle.rules.specs.Search as S;
@@ -11,7 +13,7 @@ use refusal::{Refusal, number_of};
 use search::{Label, Outcome, Searched, Window, search_sheet};
 
 // Refusal 0 is acceptance; low and high are then the window of finishing ticks.
-#[derive(Drop)]
+#[derive(Clone, Copy)]
 pub struct Answer {
     pub refusal: u32,
     pub place: usize,

@@ -1,5 +1,7 @@
 // Reads a sheet from standard input, lends 12,000 numbers, and prints refusal, place, steps, low and high. What it prints of the
 // bytes that were read is proved to be what the rules print of them.
+#![tactic(auto)]
+
 ghost use Rattle.std.specs.Prelude.{◌≡◌, ◌+◌, ◌≤◌, length};
 ghost use Rattle.rules.specs.Constants.{longest_sheet};
 ghost use Rattle.rules.specs.Product as P;
@@ -19,7 +21,7 @@ const LENT: usize = 12000;
 const LONGEST_LINE: usize = 65;
 
 // A text: the first so many of the bytes.
-#[derive(Drop)]
+#[derive(Clone, Copy)]
 struct Line {
     bytes: [u8; LONGEST_LINE],
     length: usize,

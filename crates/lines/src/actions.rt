@@ -17,7 +17,7 @@ use scan::{Built, Step, both, name_at, past, word_only_at};
 
 // The statement's code, the place behind it, the end of its operands, and whether its numbers fit; or the place of the first byte
 // that cannot go on.
-#[derive(Drop)]
+#[derive(Clone, Copy)]
 pub enum Acted {
     Took(u8, usize, usize, bool),
     Stop(usize),

@@ -14,7 +14,7 @@ use crate::timed::timed_at;
 use scan::{Step, TOO_BIG, both, is_digit, past, spaces_end, word_only_at};
 
 // What is due: `locks`; `var` or `thread`; `reg` or a statement; a statement, `thread` or the text's end.
-#[derive(Drop)]
+#[derive(Clone, Copy)]
 pub enum Due {
     Locks,
     Var,
@@ -24,7 +24,7 @@ pub enum Due {
 
 // What is due behind the line, the place there, the end of its field, and whether its numbers fit; or the place of the first byte
 // that cannot go on.
-#[derive(Drop)]
+#[derive(Clone, Copy)]
 pub enum Field {
     Took(Due, usize, usize, bool),
     Stop(usize),

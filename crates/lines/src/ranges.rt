@@ -9,7 +9,7 @@ use crate::after::{number_in, then_end, then_symbol};
 use scan::{Step, line_end_at};
 
 // Two numbers that stand for what was read, and the place behind them; or the place of the first byte that cannot go on.
-#[derive(Drop)]
+#[derive(Clone, Copy)]
 pub enum Pair {
     Took(u64, u64, usize),
     Stop(usize),

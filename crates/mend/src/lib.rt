@@ -1,5 +1,7 @@
 // Mending a garbled sheet (02, ticket 13): ends that stand the wrong way round are exchanged, and a thread that closes on another
 // statement gets its halt.
+#![tactic(auto)]
+
 mod fields; // a whole field, of whichever tag
 mod writer; // the mended sheet and the list of its changes, field by field
 mod place; // a place counted in the original

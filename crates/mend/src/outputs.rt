@@ -7,7 +7,7 @@ ghost use Rattle.mend.specs.Shape.{mending_of, refused_by};
 use writing::{put_bytes, put_zeros};
 
 // Refusal 0: so many bytes and so many numbers, two a change, were written. Another: the place in the sheet, and zeros.
-#[derive(Drop)]
+#[derive(Clone, Copy)]
 pub struct Mending {
     pub refusal: u32,
     pub place: usize,

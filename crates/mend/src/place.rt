@@ -11,7 +11,7 @@ use field::whole_field_at;
 const HALT_BYTES: usize = 8;
 
 // The place in the original; or where to go on looking, the halts so far taken off.
-#[derive(Drop)]
+#[derive(Clone, Copy)]
 pub(crate) enum Sought {
     Found(usize),
     Further(usize),

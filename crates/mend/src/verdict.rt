@@ -14,7 +14,7 @@ pub(crate) const LONGEST_SHEET: usize = 16384;
 pub(crate) const MOST_MENDED: usize = 32768;
 
 // Refusal 0: it reads well and is not too long.
-#[derive(Drop)]
+#[derive(Clone, Copy)]
 pub(crate) struct Verdict {
     pub refusal: u32,
     pub place: usize,

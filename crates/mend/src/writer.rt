@@ -19,7 +19,7 @@ const HALT_ADDED: u32 = 2;
 const HALT: [u8; 8] = [6, 0, 5, 0, 0, 0, 0, 0];
 
 // The places behind what was written, in the mended sheet and in the list.
-#[derive(Drop)]
+#[derive(Clone, Copy)]
 pub(crate) struct Ends {
     pub bytes: usize,
     pub numbers: usize,

@@ -12,7 +12,7 @@ const FILLED: u8 = 7;
 
 // What is planted, the lengths of the sheet and of what is stated of both outputs, the bytes that are lent for the mended sheet, and the
 // four numbers that are due.
-#[derive(Drop)]
+#[derive(Clone, Copy)]
 pub(crate) struct Front {
     pub(crate) planted: u64,
     pub(crate) sheet: usize,
@@ -25,7 +25,7 @@ pub(crate) struct Front {
 }
 
 // Whether the entry was read, its four numbers are the stated ones, and so are the mended sheet and the list, to the ends of both buffers.
-#[derive(Drop)]
+#[derive(Clone, Copy)]
 pub(crate) struct Verdict {
     pub(crate) read: bool,
     pub(crate) numbers: bool,

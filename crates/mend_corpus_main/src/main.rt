@@ -4,6 +4,8 @@
 //
 // Some entries are planted, so that the comparison itself is tried: one of their numbers is wrong, one byte of the mended sheet, or one
 // number of the list. It prints how many there are of each, and how many of these it noticed.
+#![tactic(auto)]
+
 mod entry;
 
 use crate::entry::{FRONT, Front, Verdict, compare, front_of, not_read};
@@ -26,7 +28,7 @@ const WRONG_LIST: u64 = 3;
 
 // How many entries are right, and how many of these differ; how many have a wrong number, a wrong sheet or a wrong list, and how many of
 // these were noticed; and whether the reading ended before the last.
-#[derive(Drop)]
+#[derive(Clone, Copy)]
 struct Tally {
     mends: u64,
     differ: u64,

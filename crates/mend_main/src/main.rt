@@ -1,6 +1,8 @@
 // Reads a sheet from standard input. The mended sheet goes to standard output, nothing where it is refused. To standard error goes
 // the line `refusal place written listed`, and behind it a line `kind offset` for each change. What goes to both, of the bytes
 // that were read, is proved to be what the rule gives.
+#![tactic(auto)]
+
 ghost use Rattle.std.specs.Prelude.{◌≡◌, [], ◌∷◌, ◌+◌, ◌*◌, ◌≤◌, length, take};
 ghost use Rattle.rules.specs.Constants.{longest_sheet};
 ghost use Rattle.writing.specs.Out.{Writes, line_of};
@@ -23,7 +25,7 @@ const LENT_NUMBERS: usize = 8192;
 const LONGEST_TEXT: usize = 90196;
 
 // How many bytes are written to standard output, and to standard error.
-#[derive(Drop)]
+#[derive(Clone, Copy)]
 struct Told {
     written: usize,
     said: usize,

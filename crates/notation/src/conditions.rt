@@ -53,7 +53,7 @@ fn word_or_leaf_at(s: &[u8], p: usize, depth: usize, out: &mut [u8], at: usize) 
 }
 
 // The place behind spaces and `!`s, the end of what was written for these, and whether there was one.
-#[derive(Drop)]
+#[derive(Clone, Copy)]
 pub struct Nots {
     pub place: usize,
     pub end: usize,

@@ -2,6 +2,8 @@
 // in it, the output and the place in it from which the expression is written. The place is in the text, and the output is shorter
 // than 65,536 bytes. Each gives the place behind the expression and the end of its bytes, which stand in the output where all its
 // numbers fit and there is room for them; otherwise nothing is said of the output.
+#![tactic(auto)]
+
 mod signs; // what joins two operands
 mod closing; // what ends a parenthesis, and where a condition is due
 mod arithmetic; // sums, products and factors

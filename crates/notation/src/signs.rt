@@ -7,7 +7,7 @@ ghost use Rattle.notation.specs.Signs.{SignRead};
 use scan::spaces_end;
 
 // A sign's code in the sheet, and the place behind it; none; or the place where one that is begun cannot go on.
-#[derive(Drop)]
+#[derive(Clone, Copy)]
 pub enum Sign {
     Joined(u8, usize),
     Nothing,

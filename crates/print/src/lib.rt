@@ -1,4 +1,6 @@
 // One printed form for each sheet (02, ticket 4): the text of a sheet, in a lent buffer.
+#![tactic(auto)]
+
 mod actions; // what a statement does
 mod rows; // the lines of statements and of ranges
 mod threads; // threads, line by line

@@ -5,7 +5,7 @@ ghost use Rattle.print.specs.Shape.{printing_of, refused_by};
 use writing::put_zeros;
 
 // Refusal 0: so many bytes were written. Another: the place in the sheet, and zeros.
-#[derive(Drop)]
+#[derive(Clone, Copy)]
 pub struct Printing {
     pub refusal: u32,
     pub place: usize,

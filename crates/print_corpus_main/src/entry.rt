@@ -15,7 +15,7 @@ const FILLED: u8 = 7;
 const OUTPUT_FULL: u32 = 19;
 
 // What is planted, the lengths of the sheet and of what is stated of the buffer, the bytes that are lent, and the three numbers that are due.
-#[derive(Drop)]
+#[derive(Clone, Copy)]
 pub(crate) struct Front {
     pub(crate) planted: u64,
     pub(crate) sheet: usize,
@@ -28,7 +28,7 @@ pub(crate) struct Front {
 
 // Whether the three numbers are the stated ones, and the buffer is, to its end; whether the sheet is printed, its text is converted back
 // to that sheet, and it is refused where one byte less is lent.
-#[derive(Drop)]
+#[derive(Clone, Copy)]
 pub(crate) struct Verdict {
     pub(crate) numbers: bool,
     pub(crate) text: bool,

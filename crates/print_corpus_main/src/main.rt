@@ -4,6 +4,8 @@
 //
 // Some entries are planted, so that the comparison itself is tried: one of their numbers is wrong, or one byte of the buffer. It prints how
 // many there are of each, and how many of these it noticed.
+#![tactic(auto)]
+
 mod entry;
 
 use crate::entry::{FRONT, Verdict, compare, front_of};
@@ -23,7 +25,7 @@ const WRONG_TEXT: u64 = 2;
 
 // How many entries are right, and how many of these differ; how many of them are printed, come back, and are refused with a byte less; how
 // many have a wrong number or a wrong text, and how many of these were noticed; and whether the reading ended before the last.
-#[derive(Drop)]
+#[derive(Clone, Copy)]
 struct Tally {
     sheets: u64,
     differ: u64,

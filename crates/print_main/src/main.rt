@@ -1,5 +1,7 @@
 // Reads a sheet from standard input. Its text goes to standard output; where it is refused, nothing goes there, and the line
 // `refusal place` goes to standard error. What goes to both, of the bytes that were read, is proved to be what the rule gives.
+#![tactic(auto)]
+
 ghost use Rattle.std.specs.Prelude.{◌≡◌, ◌+◌, ◌≤◌, length, take};
 ghost use Rattle.rules.specs.Constants.{longest_sheet};
 ghost use Rattle.writing.specs.Out.{Writes, longest_refusal};
@@ -16,7 +18,7 @@ const MOST_BYTES: usize = 16385;
 const LENT_BYTES: usize = 98304;
 
 // How many bytes go to standard output, and to standard error.
-#[derive(Drop)]
+#[derive(Clone, Copy)]
 struct Ends {
     written: usize,
     said: usize,

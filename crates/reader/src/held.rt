@@ -8,14 +8,14 @@ ghost use Rattle.reader.specs.Walk.{header_part, locks_part, variables_part, ind
 use crate::parts::{Progress, header_part, locks_part, variables_part};
 use crate::{Index, index_from};
 
-#[derive(Drop)]
+#[derive(Clone, Copy)]
 struct Reader<'a> {
     sheet: &'a [u8],
     at: usize,
 }
 
 // What was read so far, and the reader moved on behind it; of a refusal, to the place at fault.
-#[derive(Drop)]
+#[derive(Clone, Copy)]
 struct ReadOn<'a> {
     progress: Progress,
     rest: Reader<'a>,

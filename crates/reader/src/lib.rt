@@ -1,4 +1,6 @@
 // The reader of a sheet: any bytes to an index of the sheet, or the first refusal with its place.
+#![tactic(auto)]
+
 mod places; // the statements of a thread, and the table of their places
 mod closing; // the closing of a thread
 pub mod threads; // threads, and the tables of an index
@@ -26,7 +28,7 @@ pub const MOST_PLACES: usize = MOST_THREADS * MOST_STATEMENTS;
 // What a sheet says, by where it stands: refusal 0 and place 0, the header's numbers, the counts, an entry for each thread,
 // and the place of statement k of thread t at places[t * MOST_STATEMENTS + k]. A sheet that is refused has its number and its place, and
 // zeros for the rest.
-#[derive(Drop)]
+#[derive(Clone, Copy)]
 pub struct Index {
     pub refusal: u32,
     pub place: usize,

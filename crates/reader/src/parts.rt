@@ -7,7 +7,7 @@ use field::{Count, End, Header, byte_at, header_at, header_end, locks_end, read_
 use refusal::Refusal;
 
 // What was read so far, where 0 stands for a count that was not yet read; or the refusal.
-#[derive(Drop)]
+#[derive(Clone, Copy)]
 pub(crate) enum Progress {
     Read {
         header: Header,
@@ -18,7 +18,7 @@ pub(crate) enum Progress {
 }
 
 // What was read so far, and the place behind it; of a refusal, the place at fault.
-#[derive(Drop)]
+#[derive(Clone, Copy)]
 pub(crate) struct Part {
     pub progress: Progress,
     pub at: usize,

@@ -15,7 +15,7 @@ pub const MOST_THREADS: usize = 4;
 pub const OPENING_SIZE: usize = 4;
 
 // Where a thread's field of tag 4 stands, and how many registers and statements it has.
-#[derive(Drop)]
+#[derive(Clone, Copy)]
 pub struct ThreadEntry {
     pub place: u16,
     pub registers: u16,
@@ -23,7 +23,7 @@ pub struct ThreadEntry {
 }
 
 // How many threads were read and the place behind them, or the refusal; and their entries.
-#[derive(Drop)]
+#[derive(Clone, Copy)]
 pub(crate) struct Threads {
     pub end: Count,
     pub entries: [ThreadEntry; MOST_THREADS],

@@ -20,7 +20,7 @@ use field::{Action, Time};
 use interval::Val;
 
 // Thread t, which has so many registers, ends its statement at a tick.
-#[derive(Drop)]
+#[derive(Clone, Copy)]
 pub(crate) struct Event {
     pub thread: usize,
     pub registers: usize,

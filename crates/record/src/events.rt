@@ -28,7 +28,7 @@ pub(crate) const HEAD: usize = 3;
 const CLOCK_AT: usize = 4;
 
 // Where following came to, and the state there; where the check is a fault, a refusal and its place.
-#[derive(Drop)]
+#[derive(Clone, Copy)]
 pub(crate) struct Reached {
     pub check: Check,
     pub place: usize,

@@ -14,14 +14,14 @@ use interval::{Reading, Span, Val};
 use refusal::Refusal;
 
 // A value, or the fault of its arithmetic.
-#[derive(Drop)]
+#[derive(Clone, Copy)]
 pub(crate) enum Value {
     Is(Val),
     Fault(Refusal),
 }
 
 // Whether a condition holds, or the fault of its arithmetic.
-#[derive(Drop)]
+#[derive(Clone, Copy)]
 pub(crate) enum Truth {
     Is(bool),
     Fault(Refusal),

@@ -1,4 +1,6 @@
 // Follows what the machine recorded: a sheet and a record in, and whether the record is a run of the sheet that leaves a state.
+#![tactic(auto)]
+
 ghost use Rattle.std.specs.Prelude.{◌≡◌};
 ghost use Rattle.rules.specs.Demands.{Unchanged};
 ghost use Rattle.recorded.specs.Follow as F;

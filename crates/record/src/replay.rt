@@ -14,7 +14,7 @@ use interval::Val;
 use refusal::Refusal;
 
 // At is the number of the statement where the thread stands.
-#[derive(Drop)]
+#[derive(Clone, Copy)]
 pub(crate) struct RunThread {
     pub at: u8,
     pub clock: Time,
@@ -22,7 +22,7 @@ pub(crate) struct RunThread {
 }
 
 // The owner of a lock is 0 for none, t + 1 for thread t.
-#[derive(Drop)]
+#[derive(Clone, Copy)]
 pub(crate) struct Replay {
     pub threads: [RunThread; 4],
     pub vars: [Val; 8],
@@ -31,7 +31,7 @@ pub(crate) struct Replay {
 }
 
 // The replay state that an event leaves; where the check is a fault, the event is refused.
-#[derive(Drop)]
+#[derive(Clone, Copy)]
 pub(crate) struct Replayed {
     pub check: Check,
     pub replay: Replay,

@@ -24,7 +24,7 @@ const VALUE: u8 = 32;
 const VALUE_SIZE: u16 = 4;
 
 // A starting value and the place behind its field; or a refusal and its place.
-#[derive(Drop)]
+#[derive(Clone, Copy)]
 pub(crate) enum StartValue {
     Is(Val, usize),
     Refused(Refusal, usize),
@@ -48,7 +48,7 @@ fn start_value(r: &[u8], at: usize, range: Span) -> StartValue
 }
 
 // So many values and the place behind them; or a refusal and its place.
-#[derive(Drop)]
+#[derive(Clone, Copy)]
 pub(crate) struct Values {
     pub check: Check,
     pub place: usize,
@@ -89,7 +89,7 @@ fn start_values(r: &[u8], from: usize, ranges: [Span; 8], n: usize) -> Values
 }
 
 // So many threads and the place behind their registers; or a refusal and its place.
-#[derive(Drop)]
+#[derive(Clone, Copy)]
 pub(crate) struct Threads {
     pub check: Check,
     pub place: usize,

@@ -30,7 +30,7 @@ use state::{State, start};
 const LONGEST_RECORD: usize = 65536;
 
 // The file at fault.
-#[derive(Drop)]
+#[derive(Clone, Copy)]
 pub enum File {
     Sheet,
     Record,
@@ -38,7 +38,7 @@ pub enum File {
 
 // Refusal 0: the record is a run of the sheet, finished or not, whose last event is at the tick; the file is then the sheet and the
 // place 0.
-#[derive(Drop)]
+#[derive(Clone, Copy)]
 pub struct Followed {
     pub refusal: u32,
     pub file: File,

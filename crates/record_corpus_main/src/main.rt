@@ -4,6 +4,8 @@
 //
 // Some entries are planted, so that the comparison itself is tried: one of their five numbers is wrong. It prints how many there are,
 // and how many of these it noticed.
+#![tactic(auto)]
+
 ghost use Rattle.std.specs.Prelude.{◌≤◌, length};
 
 use corpus::{both, counted, four, put, read_front, wide};
@@ -18,7 +20,7 @@ const RECORD_ROOM: usize = 70000;
 const WRONG: u64 = 1;
 
 // An entry but for the bytes of its sheet and its record, of which these are the lengths.
-#[derive(Drop)]
+#[derive(Clone, Copy)]
 struct Entry {
     planted: u64,
     sheet: usize,
@@ -32,7 +34,7 @@ struct Entry {
 
 // How many entries are right, and how many of these differ; how many have a wrong number, and how many of these were noticed; and
 // whether the reading ended before the last.
-#[derive(Drop)]
+#[derive(Clone, Copy)]
 struct Tally {
     compared: u64,
     differ: u64,

@@ -2,6 +2,8 @@
 // the record is a run of the sheet that leaves a state; the file at fault (0 the sheet, 1 the record) and the place in it; whether
 // the run is finished (1) or not (0), and its last tick. What is printed of the bytes that were read is proved to be what the rule
 // gives.
+#![tactic(auto)]
+
 ghost use Rattle.std.specs.Prelude.{◌≡◌, ◌+◌, ◌≤◌, length};
 ghost use Rattle.writing.specs.Out.{Writes};
 ghost use Rattle.recorded.specs.Follow.{longest_record};

@@ -1,9 +1,11 @@
 // What the tool says no to, as data: a case for each row of 01's table, in its order, then those of 02.
+#![tactic(auto)]
+
 ghost use Rattle.std.specs.Prelude.{◌≡◌};
 ghost use Rattle.rules.specs.Refusal.{number};
 ghost use Rattle.refusal.specs.Shape.{rule_of};
 
-#[derive(Drop)]
+#[derive(Clone, Copy)]
 pub enum Refusal {
     Short,
     OutOfTurn,

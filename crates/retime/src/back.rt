@@ -13,7 +13,7 @@ use reader::{Index, read_sheet};
 use refusal::{Refusal, number_of};
 
 // Refusal 0 at place 0: the old times stand in the sheet again. Any other: the sheet is as it was.
-#[derive(Drop)]
+#[derive(Clone, Copy)]
 pub struct TakenBack {
     pub refusal: u32,
     pub place: usize,

@@ -13,7 +13,7 @@ use reader::{Index, read_sheet};
 use refusal::{Refusal, number_of};
 
 // What a change did: the statement by its thread and its number in it, its times before and after.
-#[derive(Drop)]
+#[derive(Clone, Copy)]
 pub struct Change {
     pub thread: usize,
     pub statement: usize,
@@ -24,7 +24,7 @@ pub struct Change {
 }
 
 // Refusal 0 at place 0: the change was made. Any other: the sheet is as it was, and the change all zeros.
-#[derive(Drop)]
+#[derive(Clone, Copy)]
 pub struct Changed {
     pub refusal: u32,
     pub place: usize,

@@ -8,7 +8,7 @@ use expression::num16_at;
 use reader::{Index, MOST_STATEMENTS};
 
 // Whether there is such a statement; its place, its code and its times.
-#[derive(Drop)]
+#[derive(Clone, Copy)]
 pub struct Found {
     pub there: bool,
     pub place: usize,

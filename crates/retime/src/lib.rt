@@ -1,4 +1,6 @@
 // New times on one statement of a sheet, what the check would then answer (02, ticket 7), and the change taken back (ticket 8).
+#![tactic(auto)]
+
 ghost use Rattle.std.specs.Prelude.{◌≡◌};
 ghost use Rattle.label.specs.Shape.{FiveIn};
 ghost use Rattle.rules.specs.Base.{at_front};

@@ -20,7 +20,7 @@ const SHEET_LAST: u64 = 8;
 
 // What came of an entry: whether the numbers are the stated ones, whether the preview left the buffers zero and the sheet as it was,
 // and whether the sheet after the change is the stated one. An entry that the corpus does not hold whole was not read.
-#[derive(Drop)]
+#[derive(Clone, Copy)]
 pub(crate) struct Verdict {
     pub(crate) read: bool,
     pub(crate) numbers: bool,

@@ -5,7 +5,7 @@ use retime::Changed;
 
 // An entry but for the bytes of its sheet and of what is otherwise after the change, of which these are the lengths. The preview's
 // five numbers are stated, then the change's two.
-#[derive(Drop)]
+#[derive(Clone, Copy)]
 pub(crate) struct Entry {
     pub(crate) planted: u64,
     pub(crate) sheet: usize,

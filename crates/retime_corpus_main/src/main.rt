@@ -5,6 +5,8 @@
 //
 // Some entries are planted, so that the comparison itself is tried: one of their numbers is wrong, or the stated sheet, or the program
 // changes something after the preview. It prints how many there are of each, and how many of these it noticed.
+#![tactic(auto)]
+
 mod buffers;
 mod calls;
 mod entry;
@@ -25,7 +27,7 @@ const WRONG_SHEET: u64 = 2;
 
 // How many entries are right, and how many of these differ, or were not left clean; how many have a wrong number, a wrong sheet or
 // something changed, and how many of these were noticed; and whether the reading ended before the last.
-#[derive(Drop)]
+#[derive(Clone, Copy)]
 struct Tally {
     compared: u64,
     differ: u64,

@@ -5,7 +5,7 @@ ghost use Rattle.retime_main.specs.Words.{asked_in, back_in, Says};
 use digits::{Number, number_in};
 use retime::Change;
 
-#[derive(Drop)]
+#[derive(Clone, Copy)]
 pub(crate) struct Asked {
     pub(crate) thread: usize,
     pub(crate) statement: usize,
@@ -13,7 +13,7 @@ pub(crate) struct Asked {
     pub(crate) greatest: u64,
 }
 
-#[derive(Drop)]
+#[derive(Clone, Copy)]
 pub(crate) enum Given {
     Asks(Asked),
     Wrong,
@@ -57,7 +57,7 @@ pub(crate) fn times_given() -> Given {
     asked_in(&thread[..a], &statement[..b], &least[..c], &greatest[..d])
 }
 
-#[derive(Drop)]
+#[derive(Clone, Copy)]
 pub(crate) enum Back {
     Takes(Change),
     Wrong,

@@ -9,6 +9,8 @@
 //
 // Behind a refusal no sheet stands, since nothing is to be written. What is printed of the bytes that were read is proved to be what
 // the rule gives.
+#![tactic(auto)]
+
 mod asked; // what the words ask for
 mod lines; // what is printed
 

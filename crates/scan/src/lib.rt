@@ -1,5 +1,7 @@
 // Words and numbers of a text (02, ticket 2), read from a place in it, and the bytes that are written of them. The text's bytes from
 // the place on are what the rules read; every function wants the place in the text.
+#![tactic(auto)]
+
 pub mod step; // what a reader of a text gives
 pub mod words; // spaces, numbers and words
 pub mod names; // names, words of letters, values and a line's end

@@ -111,7 +111,7 @@ pub fn insert(out: &mut [u8], at: usize, end: usize, codes: &[u8], count: usize)
 pub const MOST_KEPT: usize = 32;
 
 // How many codes are kept, and the end of what is written.
-#[derive(Drop)]
+#[derive(Clone, Copy)]
 pub struct Kept {
     pub end: usize,
     pub count: usize,

@@ -2,7 +2,7 @@
 ghost use Rattle.std.specs.Prelude.{◌≡◌, ◌&&◌};
 
 // A number that stands for what was read and the place behind it, or the place of the first byte that cannot go on.
-#[derive(Drop)]
+#[derive(Clone, Copy)]
 pub enum Step {
     Took(u64, usize),
     Stop(usize),
@@ -10,7 +10,7 @@ pub enum Step {
 
 // Something that was read and written: whether it is a condition, the place behind it, the end of what was written, and
 // whether its numbers fit; or the place of the first byte that cannot go on.
-#[derive(Drop)]
+#[derive(Clone, Copy)]
 pub enum Built {
     Took(bool, usize, usize, bool),
     Stop(usize),

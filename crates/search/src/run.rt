@@ -18,7 +18,7 @@ use refusal::Refusal;
 use state::{State, store, take_slot};
 
 // The window found so far.
-#[derive(Drop)]
+#[derive(Clone, Copy)]
 pub struct Window {
     pub seen: bool,
     pub low: Time,
@@ -43,7 +43,7 @@ fn widen(w: Window, low: Time, high: Time) -> Window
 }
 
 // How a search ends: a refusal with its place and the steps, or the steps and the window.
-#[derive(Drop)]
+#[derive(Clone, Copy)]
 pub enum Outcome {
     Fails(Refusal, usize, u32),
     Finds(u32, Window),

@@ -18,7 +18,7 @@ use state::{Clock, NUMBERS_PER_STATE, at_of, clock_of, owner_of};
 
 // Whether some thread is live; whether every live one waits for a lock; the turn's bound, where some thread is live; the
 // greatest clock low and high.
-#[derive(Drop)]
+#[derive(Clone, Copy)]
 pub(crate) struct Survey {
     pub live: bool,
     pub waiting: bool,
@@ -28,7 +28,7 @@ pub(crate) struct Survey {
 }
 
 // The survey of a state's threads, and of each thread the earliest tick of its event.
-#[derive(Drop)]
+#[derive(Clone, Copy)]
 pub(crate) struct Threads {
     pub survey: Survey,
     pub earliest: [Time; MOST_THREADS],

@@ -22,7 +22,7 @@ use refusal::Refusal;
 use state::{NUMBERS_PER_STATE, at_of};
 
 // What the events of the last threads made: the new height, or the fault of the first of them that has one.
-#[derive(Drop)]
+#[derive(Clone, Copy)]
 enum Made {
     Fault(Refusal, usize),
     Height(usize),
@@ -125,7 +125,7 @@ fn expand(
     made
 }
 
-#[derive(Drop)]
+#[derive(Clone, Copy)]
 pub(crate) enum Turned {
     Refused(Refusal, usize),
     Ended(Time, Time),

@@ -18,7 +18,7 @@ use refusal::Refusal;
 use state::{NUMBERS_PER_STATE, clear, start};
 
 // The ticks that a sheet's label allows.
-#[derive(Drop)]
+#[derive(Clone, Copy)]
 pub struct Label {
     pub low: Time,
     pub high: Time,
@@ -26,7 +26,7 @@ pub struct Label {
 
 // The refusal of a sheet that does not read, as its number and its place; or the label of one that reads, and how its search
 // ended.
-#[derive(Drop)]
+#[derive(Clone, Copy)]
 pub enum Searched {
     Unread(u32, usize),
     Ended(Label, Outcome),

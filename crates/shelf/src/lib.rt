@@ -1,4 +1,6 @@
 // A sheet is looked for by its name in the customer's file, else in ours (02, ticket 14).
+#![tactic(auto)]
+
 mod pairs; // one file
 
 ghost use Rattle.std.specs.Prelude.{◌≡◌};
@@ -11,7 +13,7 @@ use crate::pairs::{Look, look_in};
 use refusal::{Refusal, number_of};
 
 // The customer's file, or the house's.
-#[derive(Drop)]
+#[derive(Clone, Copy)]
 enum File {
     Customers,
     Ours,
@@ -19,7 +21,7 @@ enum File {
 
 // The answer in numbers. Refusal 0: the sheet stands in the file from the place on, so many bytes. Another: the file and the place at
 // fault (of 5: ours and 0), and 0 bytes.
-#[derive(Drop)]
+#[derive(Clone, Copy)]
 struct Numbers {
     refusal: u32,
     file: File,

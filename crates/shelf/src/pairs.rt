@@ -16,14 +16,14 @@ const NAME_SIZE: u16 = 1;
 const HEAD: usize = 3;
 
 // A pair: its name, the place of its sheet's first byte and how many there are; or a refusal and the place at fault.
-#[derive(Drop)]
+#[derive(Clone, Copy)]
 enum Pair {
     Read { name: u8, place: usize, size: usize },
     Refused(Refusal, usize),
 }
 
 // What a look in a file comes to: where the sheet stands and how long it is, nothing, or a refusal and the place at fault.
-#[derive(Drop)]
+#[derive(Clone, Copy)]
 pub(crate) enum Look {
     Hit { place: usize, size: usize },
     Miss,

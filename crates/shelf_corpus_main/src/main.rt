@@ -4,6 +4,8 @@
 //
 // Some entries are planted, so that the comparison itself is tried: one of their numbers is wrong, or the program takes something
 // else for the part. It prints how many there are of both, and how many of these it noticed.
+#![tactic(auto)]
+
 ghost use Rattle.std.specs.Prelude.{◌≡◌, ◌≤◌, length};
 
 use corpus::{both, counted, four, put, read_front, wide};
@@ -23,7 +25,7 @@ const LAST: u64 = 3;
 const SHORT: u64 = 4;
 
 // An entry but for the bytes of its files, of which these are the lengths.
-#[derive(Drop)]
+#[derive(Clone, Copy)]
 struct Entry {
     name: u8,
     customer: usize,
@@ -36,7 +38,7 @@ struct Entry {
 }
 
 // Whether the four numbers are the stated ones, and whether the part is.
-#[derive(Drop)]
+#[derive(Clone, Copy)]
 struct Verdict {
     numbers: bool,
     part: bool,
@@ -44,7 +46,7 @@ struct Verdict {
 
 // How many entries are right, and how many of these differ; how many have a wrong number, or a wrong part, and how many of these
 // were noticed; and whether the reading ended before the last.
-#[derive(Drop)]
+#[derive(Clone, Copy)]
 struct Tally {
     compared: u64,
     differ: u64,

@@ -1,6 +1,8 @@
 // Looks for a sheet by its name: NAME HIS OURS, a number from 0 to 255 and two files. The sheet's bytes go to standard output. Where
 // the lookup is refused, nothing goes there, and the line `number file place` (file 0 the customer's, 1 ours) goes to standard error.
 // What goes to both, of the bytes that were read, is proved to be what the rule gives.
+#![tactic(auto)]
+
 ghost use Rattle.std.specs.Prelude.{◌≡◌, ◌+◌, ◌≤◌, length};
 ghost use Rattle.writing.specs.Out.{Writes};
 ghost use Rattle.shelf_main.specs.Text.{longest_file, longest_line, name_of, name_in, line_unless_found, written, said};
@@ -19,7 +21,7 @@ const LONGEST_LINE: usize = 63;
 
 // ---- the name
 
-#[derive(Drop)]
+#[derive(Clone, Copy)]
 enum Name {
     Is(u8),
     Wrong,

@@ -1,5 +1,7 @@
 // A state of the search, by value: where each thread stands, its clock and its registers, the variables, and who owns each
 // lock. There is always room for 4 threads, 8 registers each, 8 variables and 8 locks; the sheet says how many of them count.
+#![tactic(auto)]
+
 use field::Time;
 use interval::Span;
 
@@ -14,14 +16,14 @@ pub use parts::{at_of, clock_of, owner_of, register_of, registers_of, take_slot,
 pub use starting::start;
 
 // The earliest and the latest tick that a thread's clock may show.
-#[derive(Drop)]
+#[derive(Clone, Copy)]
 pub struct Clock {
     pub low: Time,
     pub high: Time,
 }
 
 // At is the number of the statement where the thread stands.
-#[derive(Drop)]
+#[derive(Clone, Copy)]
 pub struct Thread {
     pub at: u8,
     pub clock: Clock,
@@ -29,7 +31,7 @@ pub struct Thread {
 }
 
 // The owner of a lock is 0 for none, t + 1 for thread t.
-#[derive(Drop)]
+#[derive(Clone, Copy)]
 pub struct State {
     pub threads: [Thread; 4],
     pub vars: [Span; 8],

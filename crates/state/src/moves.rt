@@ -14,7 +14,7 @@ use crate::cells::{
 use interval::Span;
 
 // A thread comes to statement `at`, with its clock there.
-#[derive(Drop)]
+#[derive(Clone, Copy)]
 pub struct Move {
     pub thread: usize,
     pub at: u8,

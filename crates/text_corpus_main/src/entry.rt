@@ -11,7 +11,7 @@ pub(crate) const FRONT: usize = 18;
 const FILLED: u8 = 7;
 
 // What is planted, the text's length, the bytes that are lent, and the three numbers that are due.
-#[derive(Drop)]
+#[derive(Clone, Copy)]
 pub(crate) struct Front {
     pub(crate) planted: u64,
     pub(crate) text: usize,
@@ -22,7 +22,7 @@ pub(crate) struct Front {
 }
 
 // Whether the three numbers are the stated ones, and the sheet is, to the buffer's end.
-#[derive(Drop)]
+#[derive(Clone, Copy)]
 pub(crate) struct Verdict {
     pub(crate) numbers: bool,
     pub(crate) sheet: bool,

@@ -3,6 +3,8 @@
 //
 // Some entries are planted, so that the comparison itself is tried: one of their numbers is wrong, or one byte of the sheet. It prints how
 // many there are of each, and how many of these it noticed.
+#![tactic(auto)]
+
 mod entry;
 
 use crate::entry::{FRONT, Verdict, compare, front_of};
@@ -20,7 +22,7 @@ const WRONG_SHEET: u64 = 2;
 
 // How many entries are right, and how many of these differ; how many have a wrong number or a wrong sheet, and how many of these were
 // noticed; and whether the reading ended before the last.
-#[derive(Drop)]
+#[derive(Clone, Copy)]
 struct Tally {
     texts: u64,
     differ: u64,

@@ -1,5 +1,7 @@
 // Texts into a lent buffer, and numbers into a lent array. A writer is the buffer and a place in it, and gives the place behind what it wrote. What does not fit
 // is not written, and the place is then one past the buffer's end, where every later writer leaves it.
+#![tactic(auto)]
+
 ghost use Rattle.std.specs.Prelude.{◌≡◌, [], ◌∷◌, ◌++◌, ◌+◌, ◌-◌, ◌%◌, ◌≤◌, length, replicate};
 ghost use Rattle.rules.specs.Base.{at_front};
 ghost use Rattle.rules.specs.Search.{five};
