@@ -8,7 +8,6 @@ use borrow.Author.Tests.{le-ltb}
 use lib.Dec.{T, ltb}
 use lib.ListN.{length, drop, length-append}
 use lib.Seq.{sets}
-use Rattle.rules.specs.Base.{if◌then◌else◌}
 use Rattle.rules.specs.Format.{Bytes}
 use Rattle.rules.specs.Program.{Action}
 use Rattle.rules.specs.Encoding.{field, code_of, encode_operands, encode_body}

@@ -1,5 +1,5 @@
 -- What the code reads of a line, as the rules' own reading of the bytes that are left.
-use Rattle.std.specs.Prelude.{Bool, ℕ, ◌≤◌, length, drop}
+use Rattle.std.specs.Prelude.{Bool, ℕ, drop}
 use Rattle.rules.specs.Base.{if◌then◌else◌}
 use Rattle.rules.specs.Format.{Bytes}
 use Rattle.text.specs.Words.{Read, stop, took, map_read, number, signed}
