@@ -24,6 +24,7 @@ pub returns : goal.returns
 unfolding ActionWord
 returns c =
     record {
-      acts = acts-as _ _ _ _ _ _ _ c.worded_at.ensures.acts (sym c.code_at-code.ensures ∙ action-worded c.args.s.now c.args.q c.if-s-q.false c.if-s-q-eq114.false);
+      acts = acts-as _ _ _ _ _ _ _ c.worded_at.ensures.acts (sym c.code_at-code.ensures ∙ action-worded c.args.s.now c.args.q
+          c.if-s-q.false c.if-s-q-eq114.false);
       onward_acted = c.worded_at.ensures.onward_acted;
     }

@@ -6,7 +6,8 @@ use Rattle.lines.proofs.after.then_end.Goals as goal
 pub returns-then-signed : goal.returns-then-signed
 returns-then-signed c =
     record {
-      result_value = after-took unit c.args.s.now (λ _ t. Rattle.lines.specs.Reading.one_end c.args.signed t) c.in-Took.is (let t = c.if-signed.true in rw t c.value_at.ensures.0);
+      result_value = after-took unit c.args.s.now (λ _ t. Rattle.lines.specs.Reading.one_end c.args.signed t) c.in-Took.is
+          (let t = c.if-signed.true in rw t c.value_at.ensures.0);
       beyond = beyond-took c.args.s.now c.in-Took.is c.value_at.ensures.1;
     }
 
@@ -20,6 +21,7 @@ returns-in-Stop c =
 pub returns-else-signed : goal.returns-else-signed
 returns-else-signed c =
     record {
-      result_value = after-took unit c.args.s.now (λ _ t. Rattle.lines.specs.Reading.one_end c.args.signed t) c.in-Took.is (let t = c.if-signed.false in rw t c.number_at.ensures.0);
+      result_value = after-took unit c.args.s.now (λ _ t. Rattle.lines.specs.Reading.one_end c.args.signed t) c.in-Took.is
+          (let t = c.if-signed.false in rw t c.number_at.ensures.0);
       beyond = beyond-took c.args.s.now c.in-Took.is c.number_at.ensures.1;
     }

@@ -13,6 +13,7 @@ returns-in-Stop c =
 pub returns-in-Took : goal.returns-in-Took
 returns-in-Took c =
     record {
-      result_value = after-took unit c.args.s.now (λ _ t. Rattle.text.specs.Lines.word_only c.args.w.now t) c.in-Took.is c.word_only_at.ensures.0;
+      result_value = after-took unit c.args.s.now (λ _ t. Rattle.text.specs.Lines.word_only c.args.w.now t) c.in-Took.is
+          c.word_only_at.ensures.0;
       beyond = beyond-took c.args.s.now c.in-Took.is c.word_only_at.ensures.1;
     }

@@ -19,6 +19,13 @@ opened_at-requires c =
 pub returns : goal.returns
 returns c =
     record {
-      lines = lines-as _ _ _ _ _ _ _ c.opened_at.ensures.lines (line-there (due_of c.args.due) c.args.s.now c.args.p c.spaces_end-q.result c.spaces_end-q.ensures.0);
-      onward_field = ((le_trans c.spaces_end-q.ensures.1.0 c.opened_at.ensures.onward_field.0.0, c.opened_at.ensures.onward_field.0.1), c.opened_at.ensures.onward_field.1);
+      lines = lines-as _ _ _ _ _ _ _ c.opened_at.ensures.lines (line-there (due_of c.args.due) c.args.s.now c.args.p
+          c.spaces_end-q.result c.spaces_end-q.ensures.0);
+      onward_field = (
+        (
+          le_trans c.spaces_end-q.ensures.1.0 c.opened_at.ensures.onward_field.0.0,
+          c.opened_at.ensures.onward_field.0.1,
+        ),
+        c.opened_at.ensures.onward_field.1,
+      );
     }

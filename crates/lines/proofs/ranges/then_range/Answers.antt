@@ -10,6 +10,7 @@ returns c =
     let e = c.then_end-b.ensures.beyond in
     let k = paired-place c.then_end-a.result c.then_end-b.result in
     rw (c.paired.ensures, k) (record {
-      result_value = range-behind c.args.s.now c.args.signed c.args.x c.then_end-a.result c.then_symbol-d.result c.then_end-b.result c.then_end-a.ensures.result_value c.then_symbol-d.ensures.result_value c.then_end-b.ensures.result_value;
+      result_value = range-behind c.args.s.now c.args.signed c.args.x c.then_end-a.result c.then_symbol-d.result
+          c.then_end-b.result c.then_end-a.ensures.result_value c.then_symbol-d.ensures.result_value c.then_end-b.ensures.result_value;
       onward = (le_trans b.0 (le_trans d.0 e.0), e.1);
     })

@@ -10,16 +10,21 @@ returns-in-Stop c =
 
 pub loop-t-smaller-then-n-lt255 : goal.loop-t-smaller-then-n-lt255
 loop-t-smaller-then-n-lt255 c =
-    counted-falls _ _ _ _ c.loop-t.invariant _ c.values_line-x.ensures.result_value _ _ _ c.in-Took.is (pair_place_lem c.args.s.now c.in-Took.is c.values_line-x.ensures.onward.1)
+    counted-falls _ _ _ _ c.loop-t.invariant _ c.values_line-x.ensures.result_value _ _ _ c.in-Took.is (pair_place_lem
+    c.args.s.now c.in-Took.is c.values_line-x.ensures.onward.1)
 
 pub loop-t-preserved-then-n-lt255 : goal.loop-t-preserved-then-n-lt255
 loop-t-preserved-then-n-lt255 c =
-    counted-more _ _ _ _ c.loop-t.invariant _ c.values_line-x.ensures.result_value _ _ _ c.in-Took.is (pair_place_lem c.args.s.now c.in-Took.is c.values_line-x.ensures.onward.1) (let l = c.if-n-lt255.true in omega arith)
+    counted-more _ _ _ _ c.loop-t.invariant _ c.values_line-x.ensures.result_value _ _ _ c.in-Took.is (pair_place_lem
+    c.args.s.now c.in-Took.is c.values_line-x.ensures.onward.1) (let l = c.if-n-lt255.true in omega arith)
 
 pub loop-t-smaller : goal.loop-t-smaller
 loop-t-smaller c =
-    counted-falls _ _ _ _ c.loop-t.invariant _ c.values_line-x.ensures.result_value _ _ _ c.in-Took.is (pair_place_lem c.args.s.now c.in-Took.is c.values_line-x.ensures.onward.1)
+    counted-falls _ _ _ _ c.loop-t.invariant _ c.values_line-x.ensures.result_value _ _ _ c.in-Took.is (pair_place_lem
+    c.args.s.now c.in-Took.is c.values_line-x.ensures.onward.1)
 
 pub loop-t-preserved : goal.loop-t-preserved
 loop-t-preserved c =
-    counted-more _ _ _ _ c.loop-t.invariant _ c.values_line-x.ensures.result_value _ _ _ c.in-Took.is (pair_place_lem c.args.s.now c.in-Took.is c.values_line-x.ensures.onward.1) (let l = c.if-n-lt255.false in let j = c.loop-t.invariant.count_is in omega arith)
+    counted-more _ _ _ _ c.loop-t.invariant _ c.values_line-x.ensures.result_value _ _ _ c.in-Took.is (pair_place_lem
+    c.args.s.now c.in-Took.is c.values_line-x.ensures.onward.1) (let l = c.if-n-lt255.false in let
+    j = c.loop-t.invariant.count_is in omega arith)

@@ -12,6 +12,10 @@ unfolding head_line
 returns c =
     let w = c.word_only_at-w.ensures in
     record {
-      result_value = c.range_line_end.ensures.result_value ∙ ap (λ g. then_read g line_end) (c.then_range-x.ensures.result_value ∙ ap (λ g. then_read g (λ _ t. range (one_end true) pair t)) w.0);
-      onward = (le_trans w.1.0 (le_trans c.then_range-x.ensures.onward.0 c.range_line_end.ensures.onward.0), c.range_line_end.ensures.onward.1);
+      result_value = c.range_line_end.ensures.result_value ∙ ap (λ g. then_read g line_end)
+          (c.then_range-x.ensures.result_value ∙ ap (λ g. then_read g (λ _ t. range (one_end true) pair t)) w.0);
+      onward = (
+        le_trans w.1.0 (le_trans c.then_range-x.ensures.onward.0 c.range_line_end.ensures.onward.0),
+        c.range_line_end.ensures.onward.1,
+      );
     }

@@ -18,6 +18,8 @@ returns-in-Stop c =
 pub returns-in-Took : goal.returns-in-Took
 returns-in-Took c =
     record {
-      acts = acts-took c.args.s.now c.args.out.now _ c.args.at c.spaces_end-t.result c.action_at.result c.in-Took.is c.spaces_end-t.ensures.0 c.action_at.ensures.acts;
-      onward_acted = acts-beyond c.args.s.now c.args.at c.action_at.result c.in-Took.is c.spaces_end-t.ensures.1.0 c.action_at.ensures.onward_acted;
+      acts = acts-took c.args.s.now c.args.out.now _ c.args.at c.spaces_end-t.result c.action_at.result c.in-Took.is
+          c.spaces_end-t.ensures.0 c.action_at.ensures.acts;
+      onward_acted = acts-beyond c.args.s.now c.args.at c.action_at.result c.in-Took.is c.spaces_end-t.ensures.1.0
+          c.action_at.ensures.onward_acted;
     }

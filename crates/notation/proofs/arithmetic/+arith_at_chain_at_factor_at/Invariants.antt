@@ -15,7 +15,8 @@ decreases-factor_at l = l.depth * 8
 
 abbrev pub invariant-chain_at-loop-out : goal.invariant-chain_at-loop-out
 invariant-chain_at-loop-out l =
-    ChainSoFar arith_form (ops_at l.level) (arith_at l.depth (l.level - 1)) l.s l.p l.initial.out l.at l.end l.fits l.out l.codes l.count l.q l.e l.f
+    ChainSoFar arith_form (ops_at l.level) (arith_at l.depth (l.level - 1)) l.s l.p l.initial.out l.at l.end l.fits l.out
+    l.codes l.count l.q l.e l.f
 
 abbrev pub decreases-chain_at-loop-out : goal.decreases-chain_at-loop-out
 decreases-chain_at-loop-out l = length l.s - l.q

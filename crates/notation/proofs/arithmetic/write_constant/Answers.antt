@@ -8,8 +8,12 @@ use Rattle.notation.proofs.arithmetic.write_constant.Goals as goal
 
 pub returns-then-v-lt-TOO_BIG : goal.returns-then-v-lt-TOO_BIG
 unfolding Builds
-returns-then-v-lt-TOO_BIG c =
-    (λ s k g h. constant-fit s k g h _ _ _ _ _ _ c.in-Took.is c.if-v-lt-TOO_BIG.true c.put_constant.ensures c.past-e.ensures, ap place_of (sym c.in-Took.is), search rules, search rules)
+returns-then-v-lt-TOO_BIG c = (
+  λ s k g h. constant-fit s k g h _ _ _ _ _ _ c.in-Took.is c.if-v-lt-TOO_BIG.true c.put_constant.ensures c.past-e.ensures,
+  ap place_of (sym c.in-Took.is),
+  search rules,
+  search rules,
+)
 
 pub returns-in-Stop : goal.returns-in-Stop
 unfolding Builds
@@ -18,5 +22,10 @@ returns-in-Stop c =
 
 pub returns-else-v-lt-TOO_BIG : goal.returns-else-v-lt-TOO_BIG
 unfolding Builds
-returns-else-v-lt-TOO_BIG c =
-    (λ s k g h. constant-unfit s k g h _ _ _ _ _ _ c.in-Took.is c.if-v-lt-TOO_BIG.false c.past-e.ensures, ap place_of (sym c.in-Took.is), search rules, search rules)
+returns-else-v-lt-TOO_BIG c = (
+  λ s k g h. constant-unfit s k g h _ _ _ _ _ _ c.in-Took.is c.if-v-lt-TOO_BIG.false c.past-e.ensures,
+  ap place_of
+      (sym c.in-Took.is),
+  search rules,
+  search rules,
+)

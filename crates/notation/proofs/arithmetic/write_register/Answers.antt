@@ -8,8 +8,13 @@ use Rattle.notation.proofs.arithmetic.write_register.Goals as goal
 
 pub returns-then-v-lt256 : goal.returns-then-v-lt256
 unfolding Builds
-returns-then-v-lt256 c =
-    (λ s g h. register-fit s g h _ _ _ _ _ _ _ _ c.in-Took.is c.if-v-lt256.true c.put.ensures c.low_byte.ensures c.put-then-v-lt256.ensures c.past-e.ensures, ap place_of (sym c.in-Took.is), search rules, search rules)
+returns-then-v-lt256 c = (
+  λ s g h. register-fit s g h _ _ _ _ _ _ _ _ c.in-Took.is c.if-v-lt256.true c.put.ensures c.low_byte.ensures
+      c.put-then-v-lt256.ensures c.past-e.ensures,
+  ap place_of (sym c.in-Took.is),
+  search rules,
+  search rules,
+)
 
 pub returns-in-Stop : goal.returns-in-Stop
 unfolding Builds
@@ -18,5 +23,10 @@ returns-in-Stop c =
 
 pub returns-else-v-lt256 : goal.returns-else-v-lt256
 unfolding Builds
-returns-else-v-lt256 c =
-    (λ s g h. register-unfit s g h _ _ _ _ _ _ c.in-Took.is c.if-v-lt256.false c.past-e.ensures, ap place_of (sym c.in-Took.is), search rules, search rules)
+returns-else-v-lt256 c = (
+  λ s g h. register-unfit s g h _ _ _ _ _ _ c.in-Took.is c.if-v-lt256.false c.past-e.ensures,
+  ap place_of
+      (sym c.in-Took.is),
+  search rules,
+  search rules,
+)

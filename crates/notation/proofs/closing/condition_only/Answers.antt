@@ -16,5 +16,8 @@ returns-in-Stop c =
 
 pub returns-else-l : goal.returns-else-l
 returns-else-l c =
-    let told = c.in-Took.is in
-    (requires-no _ told _ c.if-l.false c.spaces_end-t.ensures.0, λ p at o. onward-stop o told c.spaces_end-t.ensures.1.0 c.spaces_end-t.ensures.1.1)
+    let told = c.in-Took.is in (
+      requires-no _ told _ c.if-l.false c.spaces_end-t.ensures.0,
+      λ p at o. onward-stop o told c.spaces_end-t.ensures.1.0
+          c.spaces_end-t.ensures.1.1,
+    )

@@ -22,5 +22,8 @@ returns-in-Stop c =
 pub returns-else-l : goal.returns-else-l
 returns-else-l c =
     let told = c.in-Took.is in
-    let o = onward_self c.args.s.now _ c.requires.0 c.requires.1 c.requires.2 in
-    (λ w g r b. let n = begins-arithmetic _ _ told w _ _ g b c.if-l.false r in builds-as _ _ _ _ _ _ _ (c.onward_at.ensures.0 w n.value n.begun) n.is, onward-from _ (onward-as o told).on (le_refl _) c.onward_at.ensures.1)
+    let o = onward_self c.args.s.now _ c.requires.0 c.requires.1 c.requires.2 in (
+      λ w g r b. let n = begins-arithmetic _ _ told w _ _ g b c.if-l.false r in builds-as _ _ _ _ _ _ _ (c.onward_at.ensures.0 w
+          n.value n.begun) n.is,
+      onward-from _ (onward-as o told).on (le_refl _) c.onward_at.ensures.1,
+    )

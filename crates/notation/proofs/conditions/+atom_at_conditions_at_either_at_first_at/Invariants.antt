@@ -19,7 +19,8 @@ decreases-first_at l = l.depth * 4
 
 abbrev pub invariant-conditions_at-loop-out : goal.invariant-conditions_at-loop-out
 invariant-conditions_at-loop-out l =
-    ChainSoFar condition_form conjunctions (atomic (start_at l.depth)) l.s l.p l.initial.out l.at l.end l.fits l.out l.codes l.count l.q l.e l.f
+    ChainSoFar condition_form conjunctions (atomic (start_at l.depth)) l.s l.p l.initial.out l.at l.end l.fits l.out l.codes
+    l.count l.q l.e l.f
 
 abbrev pub decreases-conditions_at-loop-out : goal.decreases-conditions_at-loop-out
 decreases-conditions_at-loop-out l = length l.s - l.q

@@ -12,8 +12,10 @@ returns-then-s-t c =
 
 pub returns-then-s-t-ne33 : goal.returns-then-s-t-ne33
 returns-then-s-t-ne33 c =
-    nots-other _ c.loop-p.invariant c.spaces_end-t.ensures.0 c.spaces_end-t.ensures.1.0 c.spaces_end-t.ensures.1.1 c.if-s-t.false c.if-s-t-ne33.true
+    nots-other _ c.loop-p.invariant c.spaces_end-t.ensures.0 c.spaces_end-t.ensures.1.0 c.spaces_end-t.ensures.1.1
+    c.if-s-t.false c.if-s-t-ne33.true
 
 pub loop-p-preserved : goal.loop-p-preserved
 loop-p-preserved c =
-    nots-more _ c.loop-p.invariant c.spaces_end-t.ensures.0 c.spaces_end-t.ensures.1.0 c.spaces_end-t.ensures.1.1 c.if-s-t.false c.if-s-t-ne33.false c.put.ensures c.put.auto.out c.past-e.ensures
+    nots-more _ c.loop-p.invariant c.spaces_end-t.ensures.0 c.spaces_end-t.ensures.1.0 c.spaces_end-t.ensures.1.1
+    c.if-s-t.false c.if-s-t-ne33.false c.put.ensures c.put.auto.out c.past-e.ensures

@@ -12,11 +12,13 @@ returns-then-s-r c =
 
 pub returns-then-s-r-eq61 : goal.returns-then-s-r-eq61
 returns-then-s-r-eq61 c =
-    comparison-equal _ _ _ c.spaces_end-q.ensures.0 c.spaces_end-q.ensures.1.0 c.if-s-q.false c.if-b-eq61.true c.if-s-r.false c.if-s-r-eq61.true
+    comparison-equal _ _ _ c.spaces_end-q.ensures.0 c.spaces_end-q.ensures.1.0 c.if-s-q.false c.if-b-eq61.true c.if-s-r.false
+    c.if-s-r-eq61.true
 
 pub returns-then-b-eq61 : goal.returns-then-b-eq61
 returns-then-b-eq61 c =
-    comparison-broken _ _ _ c.spaces_end-q.ensures.0 c.spaces_end-q.ensures.1.0 c.if-s-q.false c.if-b-eq61.true c.if-s-r.false c.if-s-r-eq61.false
+    comparison-broken _ _ _ c.spaces_end-q.ensures.0 c.spaces_end-q.ensures.1.0 c.if-s-q.false c.if-b-eq61.true c.if-s-r.false
+    c.if-s-r-eq61.false
 
 pub returns-then-b-eq60 : goal.returns-then-b-eq60
 returns-then-b-eq60 c =

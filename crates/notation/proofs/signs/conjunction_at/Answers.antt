@@ -16,8 +16,10 @@ returns-then-s-r c =
 
 pub returns-then-s-r-eq38 : goal.returns-then-s-r-eq38
 returns-then-s-r-eq38 c =
-    conjunction-both _ _ _ c.spaces_end-q.ensures.0 c.spaces_end-q.ensures.1.0 c.if-s-q.false c.if-s-q-ne38.false c.if-s-r.false c.if-s-r-eq38.true
+    conjunction-both _ _ _ c.spaces_end-q.ensures.0 c.spaces_end-q.ensures.1.0 c.if-s-q.false c.if-s-q-ne38.false
+    c.if-s-r.false c.if-s-r-eq38.true
 
 pub returns : goal.returns
 returns c =
-    conjunction-broken _ _ _ c.spaces_end-q.ensures.0 c.spaces_end-q.ensures.1.0 c.if-s-q.false c.if-s-q-ne38.false c.if-s-r.false c.if-s-r-eq38.false
+    conjunction-broken _ _ _ c.spaces_end-q.ensures.0 c.spaces_end-q.ensures.1.0 c.if-s-q.false c.if-s-q-ne38.false
+    c.if-s-r.false c.if-s-r-eq38.false

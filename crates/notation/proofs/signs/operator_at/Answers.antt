@@ -16,7 +16,8 @@ returns-then-b-eq47 c =
 
 pub returns-then-level-eq1 : goal.returns-then-level-eq1
 returns-then-level-eq1 c =
-    operator-no-product _ _ _ _ c.spaces_end-q.ensures.0 c.spaces_end-q.ensures.1.0 c.if-s-q.false c.if-level-eq1.true c.if-b-eq42.false c.if-b-eq47.false
+    operator-no-product _ _ _ _ c.spaces_end-q.ensures.0 c.spaces_end-q.ensures.1.0 c.if-s-q.false c.if-level-eq1.true
+    c.if-b-eq42.false c.if-b-eq47.false
 
 pub returns-then-b-eq43 : goal.returns-then-b-eq43
 returns-then-b-eq43 c =
@@ -28,4 +29,5 @@ returns-then-b-eq45 c =
 
 pub returns : goal.returns
 returns c =
-    operator-no-sum _ _ _ _ c.spaces_end-q.ensures.0 c.spaces_end-q.ensures.1.0 c.if-s-q.false c.if-level-eq1.false c.if-b-eq43.false c.if-b-eq45.false
+    operator-no-sum _ _ _ _ c.spaces_end-q.ensures.0 c.spaces_end-q.ensures.1.0 c.if-s-q.false c.if-level-eq1.false
+    c.if-b-eq43.false c.if-b-eq45.false
