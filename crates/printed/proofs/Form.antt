@@ -14,7 +14,7 @@ use Rattle.rules.specs.Base.{if◌then◌else◌}
 use Rattle.rules.specs.Format.{Bytes}
 use Rattle.rules.specs.Product.{bytes, decimal_in, decimal}
 use Rattle.rules.specs.Interval.{Operator, plus, minus, times, divide}
-use Rattle.rules.specs.Program.{Arith, constant, register, operation, less}
+use Rattle.rules.specs.Program.{Arith, constant, register, operation}
 use Rattle.text.specs.Words.{is_digit}
 use Rattle.printed.specs.Print.{print_value, in_parentheses, sign, binding, print_arith}
 use Rattle.printed.specs.Form.{Before, a_space, an_opening, a_dot, a_minus, a_zero, a_digit, a_closing, another, ends_operand, in_number, behind_operand, passed, space_may, no_space, digit_may, may, gone_through}
