@@ -149,10 +149,10 @@ thread-written l m rs th h e er =
 
 -- the machine's reading of a signed result
 pub back : {r z : ℤ} → mag r < 2 ^ 31 → r ≡ z → to_z w32 (of_z w32 r) ≡ z
-back h e = to_z-of_z (record { sfits = h }) ∙ e
+back h e = to_z-of_z {w = w32} (record { sfits = h }) ∙ e
 
 pub again : (z : ℤ) → mag z < 2 ^ 31 → to_z w32 (of_z w32 z) ≡ z
-again z h = to_z-of_z (record { sfits = h })
+again z h = to_z-of_z {w = w32} (record { sfits = h })
 
 pub slot-size : (a : ℕ) → a + numbers_per_state - a ≡ numbers_per_state
 slot-size a = omega arith

@@ -1,0 +1,13 @@
+-- What the search leaves of `state::moves::put_moved`.
+use mathlib.Core.Path.{ap, ◌∙◌}
+use Prim.Native.Nat.{◌+◌, ◌*◌}
+use lib.IntN.{pos}
+use Rattle.state.specs.Cells.{decode}
+use Rattle.state.proofs.Writing.{three-in-turn}
+use Rattle.state.proofs.Written.{move-written}
+use Rattle.state.proofs.moves.put_moved.Goals as goal
+
+pub returns : goal.returns
+returns c =
+    let arg = c.args in
+    ap decode (three-in-turn c.copy.new.slot (arg.m.thread * 19) (arg.m.thread * 19 + 1) (arg.m.thread * 19 + 2) (pos arg.m.at) (pos arg.m.clock.low.0) (pos arg.m.clock.high.0) c.put_byte.ensures.0 c.put_time.ensures c.put_time-2.ensures) ∙ move-written c.copy.new.slot arg.cells.now arg.m (c.copy.auto.slot ∙ c.requires.0) c.copy.ensures c.requires.1.thread c.put_byte.ensures.1
