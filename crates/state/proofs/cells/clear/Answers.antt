@@ -9,5 +9,8 @@ use Rattle.state.proofs.cells.clear.Goals as goal
 
 pub loop-i-preserved : goal.loop-i-preserved
 loop-i-preserved c =
-    let work₀ = c.args.work.now in
-    (omega arith, simp length-set (omega arith), ap (λ (l : List ℤ). set l c.loop-i.i (pos 0)) c.loop-i.invariant.2 ∙ fill_more work₀ (pos 0) c.loop-i.i (omega arith))
+    let work₀ = c.args.work.now in (
+      omega arith,
+      simp length-set (omega arith),
+      ap (λ (l : List ℤ). set l c.loop-i.i (pos 0)) c.loop-i.invariant.2 ∙ fill_more work₀ (pos 0) c.loop-i.i (omega arith),
+    )

@@ -7,7 +7,9 @@ use Rattle.state.specs.Cells.{byte_cells_from}
 use Rattle.state.proofs.cells.put_owners.Given as goal
 
 abbrev pub invariant-loop-i : goal.invariant-loop-i
-invariant-loop-i l = (l.i ≤ 8) × (length l.cells ≡ 8) × (length l.initial.cells ≡ 8) × (l.cells ≡ byte_cells_from l.v 0 l.i ++ drop l.i l.initial.cells)
+invariant-loop-i l =
+    (l.i ≤ 8) × (length l.cells ≡ 8) × (length l.initial.cells ≡ 8)
+    × (l.cells ≡ byte_cells_from l.v 0 l.i ++ drop l.i l.initial.cells)
 
 abbrev pub decreases-loop-i : goal.decreases-loop-i
 decreases-loop-i l = 8 - l.i

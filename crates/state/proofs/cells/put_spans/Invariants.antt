@@ -7,7 +7,9 @@ use Rattle.state.specs.Cells.{span_cells_from}
 use Rattle.state.proofs.cells.put_spans.Given as goal
 
 abbrev pub invariant-loop-i : goal.invariant-loop-i
-invariant-loop-i l = (l.i ≤ 8) × (length l.cells ≡ 16) × (length l.initial.cells ≡ 16) × (l.cells ≡ span_cells_from l.v 0 l.i ++ drop (2 * l.i) l.initial.cells)
+invariant-loop-i l =
+    (l.i ≤ 8) × (length l.cells ≡ 16) × (length l.initial.cells ≡ 16)
+    × (l.cells ≡ span_cells_from l.v 0 l.i ++ drop (2 * l.i) l.initial.cells)
 
 abbrev pub decreases-loop-i : goal.decreases-loop-i
 decreases-loop-i l = 8 - l.i

@@ -7,7 +7,9 @@ use Rattle.state.specs.Cells.{cell_at}
 use Rattle.state.proofs.moves.copy.Given as goal
 
 abbrev pub invariant-loop-i : goal.invariant-loop-i
-invariant-loop-i l = (l.i ≤ numbers_per_state) × (length l.slot ≡ numbers_per_state) × (length l.initial.slot ≡ numbers_per_state) × ((k : ℕ) → k < l.i → cell_at l.slot k ≡ cell_at l.cells k)
+invariant-loop-i l =
+    (l.i ≤ numbers_per_state) × (length l.slot ≡ numbers_per_state) × (length l.initial.slot ≡ numbers_per_state)
+    × ((k : ℕ) → k < l.i → cell_at l.slot k ≡ cell_at l.cells k)
 
 abbrev pub decreases-loop-i : goal.decreases-loop-i
 decreases-loop-i l = numbers_per_state - l.i

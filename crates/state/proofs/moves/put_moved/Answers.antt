@@ -9,5 +9,12 @@ use Rattle.state.proofs.moves.put_moved.Goals as goal
 
 pub returns : goal.returns
 returns c =
-    let arg = c.args in
-    ap decode (three-in-turn c.copy.new.slot (arg.m.thread * 19) (arg.m.thread * 19 + 1) (arg.m.thread * 19 + 2) (pos arg.m.at) (pos arg.m.clock.low.0) (pos arg.m.clock.high.0) c.put_byte.ensures.0 c.put_time.ensures c.put_time-2.ensures) ∙ move-written c.copy.new.slot arg.cells.now arg.m (c.copy.auto.slot ∙ c.requires.0) c.copy.ensures c.requires.1.thread c.put_byte.ensures.1
+    let m = c.args.m in
+    let p = m.thread * 19 in
+    let slot = c.copy.new.slot in
+    ap decode
+    (
+    three-in-turn slot p (p + 1) (p + 2) (pos m.at) (pos m.clock.low.0) (pos m.clock.high.0)
+    c.put_byte.ensures.0 c.put_time.ensures c.put_time-2.ensures
+    )
+    ∙ move-written slot c.args.cells.now m (c.copy.auto.slot ∙ c.requires.0) c.copy.ensures c.requires.1.thread c.put_byte.ensures.1

@@ -14,5 +14,9 @@ use Rattle.state.proofs.moves.put_registers.Goals as goal
 pub returns : goal.returns
 returns c =
     let b = c.args.cells.now in
-    ap (λ (l : List ℤ). decode (put_mid (c.args.m.thread * 19 + 3) (c.args.m.thread * 19 + 3 + 16 - (c.args.m.thread * 19 + 3)) c.put_moved.new.slot l)) c.put_spans.ensures
-    ∙ registers-written c.put_moved.new.slot (decode b) c.args.m (thread_at (decode b) c.args.m.thread).regs (decode-sound b).four c.requires.1.thread c.put_moved.ensures (c.put_moved.auto.slot ∙ c.requires.0) c.args.regs (search rules)
+    let m = c.args.m in
+    let p = m.thread * 19 + 3 in
+    let slot = c.put_moved.new.slot in
+    ap (λ (l : List ℤ). decode (put_mid p (p + 16 - p) slot l)) c.put_spans.ensures
+    ∙ registers-written slot (decode b) m (thread_at (decode b) m.thread).regs (decode-sound b).four
+    c.requires.1.thread c.put_moved.ensures (c.put_moved.auto.slot ∙ c.requires.0) c.args.regs (search rules)

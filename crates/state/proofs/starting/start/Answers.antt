@@ -33,10 +33,13 @@ pub returns : goal.returns
 returns c =
     let bytes = c.args.sheet.now in
     let index = c.args.index in
-    let starts = at-four (λ t th. t < index.threads → ThreadStarts bytes (get_or index.entries t no_entry) th) c.thread_of-t0.result c.thread_of-t1.result c.thread_of-t2.result c.thread_of-t3.result
+    let starts = at-four (λ t th. t < index.threads → ThreadStarts bytes (get_or index.entries t no_entry) th)
+    c.thread_of-t0.result c.thread_of-t1.result c.thread_of-t2.result c.thread_of-t3.result
     c.thread_of-t0.ensures.0 c.thread_of-t1.ensures.0 c.thread_of-t2.ensures.0 c.thread_of-t3.ensures.0 in
     record {
       starts = λ g e reads. state-starts bytes index g e c.requires.0 reads _ c.ranges_at-vars.result refl starts c.ranges_at-vars.ensures;
-      timed = record { timed = four-timed _ _ _ _ c.thread_of-t0.ensures.1 c.thread_of-t1.ensures.1 c.thread_of-t2.ensures.1 c.thread_of-t3.ensures.1 };
+      timed = record {
+        timed = four-timed _ _ _ _ c.thread_of-t0.ensures.1 c.thread_of-t1.ensures.1 c.thread_of-t2.ensures.1 c.thread_of-t3.ensures.1;
+      };
       others = tt;
     }
