@@ -9,7 +9,6 @@ use lib.ListN.{length}
 use lib.Seq.{sets}
 use Rattle.rules.specs.Format.{Bytes}
 use Rattle.rules.proofs.Base.{and_left, and_right}
-use Rattle.scan.specs.declared.step.Step.TheVariants.{Took, Stop}
 use Rattle.lines.specs.Writing.{front_bytes, put_timed}
 use Rattle.lines.specs.declared.ranges.Pair.{Pair}
 use Rattle.lines.specs.declared.ranges.Pair.TheVariants as pairs
