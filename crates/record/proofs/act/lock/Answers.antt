@@ -6,7 +6,8 @@ use Rattle.record.proofs.act.lock.Goals as goal
 pub returns-then-may_take : goal.returns-then-may_take
 returns-then-may_take c =
     let arg = c.args in
-    λ z h i. locks z arg.x arg.v h c.write_owner.result arg.l i c.owner.result c.owner.ensures (sym c.may_take.ensures ∙ c.if-may_take.true) (c.write_owner.ensures z)
+    λ z h i. locks z arg.x arg.v h c.write_owner.result arg.l i c.owner.result c.owner.ensures
+    (sym c.may_take.ensures ∙ c.if-may_take.true) (c.write_owner.ensures z)
 
 pub returns : goal.returns
 returns c =

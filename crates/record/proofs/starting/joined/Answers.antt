@@ -14,10 +14,19 @@ use Rattle.record.proofs.starting.joined.Goals as goal
 pub returns-in-Fault-clause-result_value : goal.returns-in-Fault-clause-result_value
 returns-in-Fault-clause-result_value c =
     let arg = c.args in
-    (λ z. joined-fault z (rule_of c.in-Fault.q) arg.v.place (threads_got z.regs arg.y) ∙ sym (ap (λ (k : Check). started_with z (placed arg.v.place (unless_fault k (values_of z.vars arg.v.values))) (threads_got z.regs arg.y)) c.in-Fault.is))
+    (λ z. joined-fault z (rule_of c.in-Fault.q) arg.v.place (threads_got z.regs arg.y) ∙ sym
+    (ap (λ (k : Check). started_with z (placed arg.v.place (unless_fault k (values_of z.vars arg.v.values)))
+    (threads_got z.regs arg.y)) c.in-Fault.is))
 
 pub returns-in-Passed-clause-result_value : goal.returns-in-Passed-clause-result_value
 unfolding state_of
 returns-in-Passed-clause-result_value c =
     let arg = c.args in
-    (λ z. joined-passed z arg.y.check (values_of z.vars arg.v.values) (threads_of z.regs arg.y.threads) arg.v.place arg.y.place (after 0 (record { threads = threads_of z.regs arg.y.threads; vars = values_of z.vars arg.v.values; owners = owners_of z.locks (replicate most_locks 0) })) refl ∙ sym (ap (λ (k : Check). started_with z (placed arg.v.place (unless_fault k (values_of z.vars arg.v.values))) (threads_got z.regs arg.y)) c.in-Passed.is))
+    (λ z. joined-passed z arg.y.check (values_of z.vars arg.v.values) (threads_of z.regs arg.y.threads) arg.v.place arg.y.place
+    (after 0 (record {
+      threads = threads_of z.regs arg.y.threads;
+      vars = values_of z.vars arg.v.values;
+      owners = owners_of
+          z.locks (replicate most_locks 0);
+    })) refl ∙ sym (ap (λ (k : Check). started_with z
+    (placed arg.v.place (unless_fault k (values_of z.vars arg.v.values))) (threads_got z.regs arg.y)) c.in-Passed.is))

@@ -13,4 +13,8 @@ pub returns-clause-result_value : goal.returns-clause-result_value
 unfolding sizes_of
 returns-clause-result_value c =
     let arg = c.args in
-    (λ g w u. c.joined.ensures.result_value (sizes_of g) ∙ start_is g arg.r.now u.locks_few c.start_values-v.result.check (values_of (length g.vars) c.start_values-v.result.values) c.start_values-v.result.place (threads_got (sizes_of g).regs c.start_threads-y.result) (subst (λ (m : ℕ). values_got m c.start_values-v.result ≡ start_values (regs_of m arg.first.vars) [] arg.r.now 0) u.count c.start_values-v.ensures ∙ ap (λ (is : List Interval). start_values is [] arg.r.now 0) u.vars) (c.start_threads-y.ensures g w))
+    (λ g w u. c.joined.ensures.result_value (sizes_of g) ∙ start_is g arg.r.now u.locks_few c.start_values-v.result.check
+    (values_of (length g.vars) c.start_values-v.result.values) c.start_values-v.result.place
+    (threads_got (sizes_of g).regs c.start_threads-y.result)
+    (subst (λ (m : ℕ). values_got m c.start_values-v.result ≡ start_values (regs_of m arg.first.vars) [] arg.r.now 0) u.count
+    c.start_values-v.ensures ∙ ap (λ (is : List Interval). start_values is [] arg.r.now 0) u.vars) (c.start_threads-y.ensures g w))

@@ -7,7 +7,8 @@ use Rattle.record.proofs.starting.start_value.Goals as goal
 pub overflow_add-at : goal.overflow_add-at
 overflow_add-at c =
     let arg = c.args in
-    let room : arg.at + 3 + 4 ≤ length arg.r.now = value_room (interval_of arg.range) arg.r.now arg.at c.fixed_field_end-e.ensures c.in-At.is in
+    let room : arg.at + 3 + 4 ≤ length arg.r.now = value_room (interval_of arg.range) arg.r.now arg.at c.fixed_field_end-e.ensures
+    c.in-At.is in
     search rules
 
 pub int32_at-v-requires : goal.int32_at-v-requires
@@ -18,7 +19,8 @@ int32_at-v-requires c =
 pub returns-then-holds : goal.returns-then-holds
 returns-then-holds c =
     let arg = c.args in
-    value_is (interval_of arg.range) arg.r.now arg.at c.fixed_field_end-e.ensures c.in-At.is c.int32_at-v.ensures (sym c.holds.ensures ∙ c.if-holds.true)
+    value_is (interval_of arg.range) arg.r.now arg.at c.fixed_field_end-e.ensures c.in-At.is c.int32_at-v.ensures
+    (sym c.holds.ensures ∙ c.if-holds.true)
 
 pub returns-in-Refused : goal.returns-in-Refused
 returns-in-Refused c =
@@ -28,4 +30,5 @@ returns-in-Refused c =
 pub returns-else-holds : goal.returns-else-holds
 returns-else-holds c =
     let arg = c.args in
-    value-off (interval_of arg.range) arg.r.now arg.at c.fixed_field_end-e.ensures c.in-At.is c.int32_at-v.ensures (sym c.holds.ensures ∙ c.if-holds.false)
+    value-off (interval_of arg.range) arg.r.now arg.at c.fixed_field_end-e.ensures c.in-At.is c.int32_at-v.ensures
+    (sym c.holds.ensures ∙ c.if-holds.false)

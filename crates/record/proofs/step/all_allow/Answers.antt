@@ -16,14 +16,24 @@ loop-u-init c =
 pub loop-u-preserved : goal.loop-u-preserved
 loop-u-preserved c =
     let arg = c.args in
-    one_more c.loop-u.u (allows_at (program_in arg.sheet.now) (state_of (sizes_of (program_in arg.sheet.now)) arg.x) arg.e.0) c.loop-u.invariant (sym (allows-is arg.sheet.now arg.x (four-of arg.x c.well_formed.1.1.1.0.0 c.well_formed.1.1.1.0.1.1) c.requires.facts.threads_few c.loop-u.u (omega (arith, c.requires.threads, c.loop-u-test.true)) c.fetch-f.result c.fetch-f.ensures arg.e.0) ∙ sym c.allows.ensures ∙ c.if-allows.true)
+    one_more c.loop-u.u (allows_at (program_in arg.sheet.now) (state_of (sizes_of (program_in arg.sheet.now)) arg.x) arg.e.0)
+    c.loop-u.invariant (sym (allows-is arg.sheet.now arg.x (four-of arg.x c.well_formed.1.1.1.0.0 c.well_formed.1.1.1.0.1.1)
+    c.requires.facts.threads_few c.loop-u.u (omega (arith, c.requires.threads, c.loop-u-test.true)) c.fetch-f.result
+    c.fetch-f.ensures arg.e.0) ∙ sym c.allows.ensures ∙ c.if-allows.true)
 
 pub returns-else-allows : goal.returns-else-allows
 returns-else-allows c =
     let arg = c.args in
-    all-false (length (program_in arg.sheet.now).threads) (allows_at (program_in arg.sheet.now) (state_of (sizes_of (program_in arg.sheet.now)) arg.x) arg.e.0) c.loop-u.u (omega (arith, c.requires.threads, c.loop-u-test.true)) (sym (allows-is arg.sheet.now arg.x (four-of arg.x c.well_formed.1.1.1.0.0 c.well_formed.1.1.1.0.1.1) c.requires.facts.threads_few c.loop-u.u (omega (arith, c.requires.threads, c.loop-u-test.true)) c.fetch-f.result c.fetch-f.ensures arg.e.0) ∙ sym c.allows.ensures ∙ c.if-allows.false)
+    all-false (length (program_in arg.sheet.now).threads) (allows_at (program_in arg.sheet.now)
+    (state_of (sizes_of (program_in arg.sheet.now)) arg.x) arg.e.0) c.loop-u.u
+    (omega (arith, c.requires.threads, c.loop-u-test.true))
+    (sym (allows-is arg.sheet.now arg.x (four-of arg.x c.well_formed.1.1.1.0.0 c.well_formed.1.1.1.0.1.1)
+    c.requires.facts.threads_few c.loop-u.u (omega (arith, c.requires.threads, c.loop-u-test.true)) c.fetch-f.result
+    c.fetch-f.ensures arg.e.0) ∙ sym c.allows.ensures ∙ c.if-allows.false)
 
 pub returns : goal.returns
 returns c =
     let arg = c.args in
-    all_true (length (program_in arg.sheet.now).threads) c.loop-u.u (allows_at (program_in arg.sheet.now) (state_of (sizes_of (program_in arg.sheet.now)) arg.x) arg.e.0) (omega (arith, c.requires.threads, c.loop-u-test.false)) c.loop-u.invariant
+    all_true (length (program_in arg.sheet.now).threads) c.loop-u.u
+    (allows_at (program_in arg.sheet.now) (state_of (sizes_of (program_in arg.sheet.now)) arg.x) arg.e.0)
+    (omega (arith, c.requires.threads, c.loop-u-test.false)) c.loop-u.invariant

@@ -8,4 +8,6 @@ pub returns : goal.returns
 unfolding tick_after
 returns c =
     let arg = c.args in
-    ap (λ (k : ℕ). arg.tick.0 + k) (gap-only (clock_at arg.tick.0) arg.clock c.wrapping_sub_u16-gap.result (omega arith) (search rules) (ap (λ (b : ℕ). (c.wrapping_sub_u16-gap.result + b) % 65536) (sym c.clock_at-before.ensures) ∙ c.wrapping_sub_u16-gap.ensures.value))
+    ap (λ (k : ℕ). arg.tick.0 + k) (gap-only (clock_at arg.tick.0) arg.clock c.wrapping_sub_u16-gap.result (omega arith)
+    (search rules) (ap (λ (b : ℕ). (c.wrapping_sub_u16-gap.result + b) % 65536) (sym c.clock_at-before.ensures) ∙
+    c.wrapping_sub_u16-gap.ensures.value))

@@ -22,4 +22,5 @@ unfolding F.follow
 returns-clause-result_value c =
     let arg = c.args in
     (promised arg.sheet.now arg.recorded.now _ (c.in_sheet.ensures
-    ∙ sheet-refused c.read_sheet-index.result (read_sheet arg.sheet.now) arg.recorded.now c.read_sheet-index.ensures c.if-index-eq0.false)).0
+    ∙ sheet-refused c.read_sheet-index.result (read_sheet arg.sheet.now) arg.recorded.now c.read_sheet-index.ensures
+    c.if-index-eq0.false)).0

@@ -9,8 +9,12 @@ use Rattle.record.proofs.whole.follow_index.Goals as goal
 
 pub follow_record-y-requires : goal.follow_record-y-requires
 follow_record-y-requires c =
-    let arg = c.args in
-    ((ready arg.sheet.now arg.index c.requires.0 c.requires.1), starts_from arg.sheet.now arg.index c.requires.0 c.requires.1 c.start-first.result (sound-of c.start-first.result c.start-first.type_inv.0 c.start-first.type_inv.1.1).four c.start-first.ensures.starts)
+    let arg = c.args in (
+      (ready arg.sheet.now arg.index c.requires.0 c.requires.1),
+      starts_from arg.sheet.now arg.index c.requires.0 c.requires.1
+          c.start-first.result (sound-of c.start-first.result c.start-first.type_inv.0 c.start-first.type_inv.1.1).four
+          c.start-first.ensures.starts,
+    )
 
 pub judged-requires : goal.judged-requires
 judged-requires c =
@@ -20,4 +24,5 @@ judged-requires c =
 pub returns : goal.returns
 returns c =
     let arg = c.args in
-    c.judged.ensures ∙ ap (answer_of (program_in arg.sheet.now)) c.follow_record-y.ensures ∙ followed-is arg.sheet.now arg.index c.requires.0 c.requires.1 arg.r.now
+    c.judged.ensures ∙ ap (answer_of (program_in arg.sheet.now)) c.follow_record-y.ensures ∙ followed-is arg.sheet.now arg.index
+    c.requires.0 c.requires.1 arg.r.now

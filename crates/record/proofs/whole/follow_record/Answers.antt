@@ -17,9 +17,18 @@ returns-then-r-gt-LONGEST_RECORD c =
 pub returns-in-Fault : goal.returns-in-Fault
 returns-in-Fault c =
     let arg = c.args in
-    ap (λ (k : Check). placed c.start_replay-s.result.place (unless_fault k (replay_of (sizes_of (program_in arg.sheet.now)) c.start_replay-s.result.replay))) c.in-Fault.is ∙ start-refused (program_in arg.sheet.now) arg.r.now c.if-r-gt-LONGEST_RECORD.false (rule_of c.in-Fault.field-0) c.start_replay-s.result.place (sym (ap (λ (k : Check). placed c.start_replay-s.result.place (unless_fault k (replay_of (sizes_of (program_in arg.sheet.now)) c.start_replay-s.result.replay))) c.in-Fault.is) ∙ c.start_replay-s.ensures.result_value (program_in arg.sheet.now) c.requires.1.0 c.requires.1.1)
+    ap (λ (k : Check). placed c.start_replay-s.result.place (unless_fault k
+    (replay_of (sizes_of (program_in arg.sheet.now)) c.start_replay-s.result.replay))) c.in-Fault.is ∙ start-refused
+    (program_in arg.sheet.now) arg.r.now c.if-r-gt-LONGEST_RECORD.false (rule_of c.in-Fault.field-0)
+    c.start_replay-s.result.place (sym (ap (λ (k : Check). placed c.start_replay-s.result.place
+    (unless_fault k (replay_of (sizes_of (program_in arg.sheet.now)) c.start_replay-s.result.replay))) c.in-Fault.is) ∙
+    c.start_replay-s.ensures.result_value (program_in arg.sheet.now) c.requires.1.0 c.requires.1.1)
 
 pub returns-in-Passed : goal.returns-in-Passed
 returns-in-Passed c =
     let arg = c.args in
-    c.follow_events.ensures ∙ started (program_in arg.sheet.now) arg.r.now c.if-r-gt-LONGEST_RECORD.false (replay_of (sizes_of (program_in arg.sheet.now)) c.start_replay-s.result.replay) c.start_replay-s.result.place (sym (ap (λ (k : Check). placed c.start_replay-s.result.place (unless_fault k (replay_of (sizes_of (program_in arg.sheet.now)) c.start_replay-s.result.replay))) c.in-Passed.is) ∙ c.start_replay-s.ensures.result_value (program_in arg.sheet.now) c.requires.1.0 c.requires.1.1)
+    c.follow_events.ensures ∙ started (program_in arg.sheet.now) arg.r.now c.if-r-gt-LONGEST_RECORD.false
+    (replay_of (sizes_of (program_in arg.sheet.now)) c.start_replay-s.result.replay) c.start_replay-s.result.place
+    (sym (ap (λ (k : Check). placed c.start_replay-s.result.place
+    (unless_fault k (replay_of (sizes_of (program_in arg.sheet.now)) c.start_replay-s.result.replay))) c.in-Passed.is) ∙
+    c.start_replay-s.ensures.result_value (program_in arg.sheet.now) c.requires.1.0 c.requires.1.1)

@@ -12,10 +12,13 @@ pub returns-in-Fault : goal.returns-in-Fault
 unfolding answer_of
 returns-in-Fault c =
     let arg = c.args in
-    c.in_record.ensures ∙ sym (ap (λ (k : Check). answer_of (program_in arg.sheet.now) (placed arg.y.place (unless_fault k (replay_of (sizes_of (program_in arg.sheet.now)) arg.y.replay)))) c.in-Fault.is)
+    c.in_record.ensures ∙ sym (ap (λ (k : Check). answer_of (program_in arg.sheet.now)
+    (placed arg.y.place (unless_fault k (replay_of (sizes_of (program_in arg.sheet.now)) arg.y.replay)))) c.in-Fault.is)
 
 pub returns-in-Passed : goal.returns-in-Passed
 unfolding answer_of
 returns-in-Passed c =
     let arg = c.args in
-    ap (λ (b : Bool). leaves b arg.y.replay.tick.0) c.all_halt-done.ensures ∙ sym (ap (λ (k : Check). answer_of (program_in arg.sheet.now) (placed arg.y.place (unless_fault k (replay_of (sizes_of (program_in arg.sheet.now)) arg.y.replay)))) c.in-Passed.is)
+    ap (λ (b : Bool). leaves b arg.y.replay.tick.0) c.all_halt-done.ensures ∙ sym
+    (ap (λ (k : Check). answer_of (program_in arg.sheet.now)
+    (placed arg.y.place (unless_fault k (replay_of (sizes_of (program_in arg.sheet.now)) arg.y.replay)))) c.in-Passed.is)
