@@ -12,6 +12,7 @@ mod step;
 use crate::calls::{Verdict, compare_step};
 use crate::step::{BYTES, step_of};
 use corpus::{both, copy_bytes, counted, four, put, read_front, wide};
+use files::read_full;
 
 // Bytes of a sheet at most.
 const ROOM: usize = 20000;
@@ -45,9 +46,9 @@ fn not_read() -> Verdict {
 }
 
 // One step more. One that the corpus does not hold whole ends the chain.
-fn compare_next(v: Verdict, sheet: &mut [u8], stated: &mut [u8]) -> Verdict {
+fn compare_next(rt: HostRuntime, v: Verdict, sheet: &mut [u8], stated: &mut [u8]) -> Verdict {
     let mut bytes = [0u8; BYTES];
-    if io::read_full(0, &mut bytes) < BYTES {
+    if read_full(&mut rt.stdin(), &mut bytes) < BYTES {
         return not_read();
     }
     compare_step(v, step_of(&bytes), sheet, stated)
@@ -55,7 +56,13 @@ fn compare_next(v: Verdict, sheet: &mut [u8], stated: &mut [u8]) -> Verdict {
 
 // So many steps of a chain, one after another in the same sheet; so many were compared before. The second buffer holds what the sheet
 // is to be.
-fn compare_chain(count: u64, before: u64, sheet: &mut [u8], stated: &mut [u8]) -> Verdict {
+fn compare_chain(
+    rt: HostRuntime,
+    count: u64,
+    before: u64,
+    sheet: &mut [u8],
+    stated: &mut [u8],
+) -> Verdict {
     let mut v = Verdict {
         read: copy_bytes(sheet, stated),
         numbers: true,
@@ -66,20 +73,27 @@ fn compare_chain(count: u64, before: u64, sheet: &mut [u8], stated: &mut [u8]) -
         if !v.read {
             return v;
         }
-        v = compare_next(v, sheet, stated);
+        v = compare_next(rt, v, sheet, stated);
     }
     v
 }
 
 // Lends the front of both buffers.
-fn lend_sheet(n: usize, count: u64, before: u64, sheet: &mut [u8], stated: &mut [u8]) -> Verdict {
+fn lend_sheet(
+    rt: HostRuntime,
+    n: usize,
+    count: u64,
+    before: u64,
+    sheet: &mut [u8],
+    stated: &mut [u8],
+) -> Verdict {
     if sheet.len() < n {
         return not_read();
     }
     if stated.len() < n {
         return not_read();
     }
-    compare_chain(count, before, &mut sheet[..n], &mut stated[..n])
+    compare_chain(rt, count, before, &mut sheet[..n], &mut stated[..n])
 }
 
 // The first where the fact holds, else the second.
@@ -112,25 +126,25 @@ fn ended(mut t: Tally) -> Tally {
 }
 
 // One chain more. One that the corpus does not hold whole ends the reading.
-fn compare_entry(t: Tally, sheet: &mut [u8], stated: &mut [u8]) -> Tally {
+fn compare_entry(rt: HostRuntime, t: Tally, sheet: &mut [u8], stated: &mut [u8]) -> Tally {
     let mut front = [0u8; 9];
-    if io::read_full(0, &mut front) < 9 {
+    if read_full(&mut rt.stdin(), &mut front) < 9 {
         return ended(t);
     }
     let planted = wide(front[0]);
     let n = four(front[1], front[2], front[3], front[4]) as usize;
     let steps = four(front[5], front[6], front[7], front[8]) / (BYTES as u64);
-    if !read_front(sheet, n) {
+    if !read_front(&mut rt.stdin(), sheet, n) {
         return ended(t);
     }
-    let v = lend_sheet(n, steps, t.steps, sheet, stated);
+    let v = lend_sheet(rt, n, steps, t.steps, sheet, stated);
     if v.read {
         return added(t, v, planted);
     }
     ended(t)
 }
 
-fn compare_all(count: u64, sheet: &mut [u8], stated: &mut [u8]) -> Tally {
+fn compare_all(rt: HostRuntime, count: u64, sheet: &mut [u8], stated: &mut [u8]) -> Tally {
     let mut t = Tally {
         chains: 0,
         steps: 0,
@@ -145,25 +159,25 @@ fn compare_all(count: u64, sheet: &mut [u8], stated: &mut [u8]) -> Tally {
         if t.ended {
             return t;
         }
-        t = compare_entry(t, sheet, stated);
+        t = compare_entry(rt, t, sheet, stated);
     }
     t
 }
 
-fn main() {
+fn main(rt: HostRuntime) {
     let mut count = [0u8; 4];
-    if io::read_full(0, &mut count) < 4 {
+    if read_full(&mut rt.stdin(), &mut count) < 4 {
         return;
     }
     let mut sheet = [0u8; ROOM];
     let mut stated = [0u8; ROOM];
     let n = four(count[0], count[1], count[2], count[3]);
-    let t = compare_all(n, &mut sheet, &mut stated);
-    put(t.chains, b" chains of ");
-    put(t.steps, b" steps compared, ");
-    put(t.differ, b" differ; noticed of what is planted: ");
-    put(t.numbers_noticed, b" of ");
-    put(t.numbers, b" wrong numbers, ");
-    put(t.sheets_noticed, b" of ");
-    put(t.sheets, b" wrong sheets\n");
+    let t = compare_all(rt, n, &mut sheet, &mut stated);
+    put(rt, t.chains, b" chains of ");
+    put(rt, t.steps, b" steps compared, ");
+    put(rt, t.differ, b" differ; noticed of what is planted: ");
+    put(rt, t.numbers_noticed, b" of ");
+    put(rt, t.numbers, b" wrong numbers, ");
+    put(rt, t.sheets_noticed, b" of ");
+    put(rt, t.sheets, b" wrong sheets\n");
 }

@@ -3,6 +3,9 @@
 
 ghost use Rattle.std.specs.Prelude.{◌≡◌, true, false, cond, ◌&&◌, ◌+◌, ◌*◌, ◌<◌, ◌≤◌, ltb, pos, length, drop, replicate};
 
+use files::read_full;
+use std::io::{Print, Read};
+
 // No count goes beyond this, so that none wraps.
 const MOST: u64 = 1000000;
 
@@ -134,21 +137,21 @@ pub fn copy_bytes(from: &[u8], to: &mut [u8]) -> bool
     true
 }
 
-// Reads the next n bytes of standard input to the front of the buffer; false where there are fewer, or where the buffer is shorter.
-pub fn read_front(buffer: &mut [u8], n: usize) -> bool
+// Reads the next n bytes to the front of the buffer; false where there are fewer, or where the buffer is shorter.
+pub fn read_front<R: Read>(from: &mut R, buffer: &mut [u8], n: usize) -> bool
     ensures n_in_bounds { result ≡ true → n ≤ length buffer.old }
     ensures buffer_unchanged { drop n buffer.new ≡ drop n buffer.old }
 {
     if buffer.len() < n {
         return false;
     }
-    io::read_full(0, &mut buffer[..n]) == n
+    read_full(from, &mut buffer[..n]) == n
 }
 
 // A number and a text to standard output. No contract can say what is written there.
-pub fn put(n: u64, text: &[u8])
+pub fn put(rt: HostRuntime, n: u64, text: &[u8])
     ensures { text.now ≡ text.now }
 {
-    io::print_decimal(1, n);
-    io::write_all(1, text);
+    let _ = rt.print(n);
+    let _ = rt.write_all(text);
 }

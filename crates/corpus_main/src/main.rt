@@ -7,6 +7,7 @@
 #![tactic(auto)]
 
 use corpus::{FILLED, both, counted, fill, filled, four, put, read_front, two, wide, zeros};
+use files::read_full;
 use label::{Answer, check};
 
 const MOST_SHEETS: usize = 65536;
@@ -195,13 +196,13 @@ fn added(t: Tally, v: Verdict, planted: u64) -> Tally {
 }
 
 // One entry more.
-fn compare_next(t: Tally, bytes: &mut [u8], work: &mut [i32]) -> Tally {
+fn compare_next(rt: HostRuntime, t: Tally, bytes: &mut [u8], work: &mut [i32]) -> Tally {
     let mut front = [0u8; 20];
-    if io::read_full(0, &mut front) < 20 {
+    if read_full(&mut rt.stdin(), &mut front) < 20 {
         return t;
     }
     let f = front_of(&front);
-    if read_front(bytes, f.bytes) {
+    if read_front(&mut rt.stdin(), bytes, f.bytes) {
         let v = compare_sheet(f, bytes, work);
         return added(t, v, f.planted);
     }
@@ -209,14 +210,14 @@ fn compare_next(t: Tally, bytes: &mut [u8], work: &mut [i32]) -> Tally {
 }
 
 // The same, as long as the count is not reached.
-fn compare_due(count: u64, t: Tally, bytes: &mut [u8], work: &mut [i32]) -> Tally {
+fn compare_due(rt: HostRuntime, count: u64, t: Tally, bytes: &mut [u8], work: &mut [i32]) -> Tally {
     if t.read < count {
-        return compare_next(t, bytes, work);
+        return compare_next(rt, t, bytes, work);
     }
     t
 }
 
-fn compare_all(count: u64, bytes: &mut [u8], work: &mut [i32]) -> Tally {
+fn compare_all(rt: HostRuntime, count: u64, bytes: &mut [u8], work: &mut [i32]) -> Tally {
     let mut t = Tally {
         read: 0,
         compared: 0,
@@ -228,31 +229,33 @@ fn compare_all(count: u64, bytes: &mut [u8], work: &mut [i32]) -> Tally {
         changed_noticed: 0,
     };
     for _ in 0..MOST_SHEETS {
-        t = compare_due(count, t, bytes, work);
+        t = compare_due(rt, count, t, bytes, work);
     }
     t
 }
 
-fn main() {
+fn main(rt: HostRuntime) {
     let mut count = [0u8; 4];
-    if io::read_full(0, &mut count) < 4 {
+    if read_full(&mut rt.stdin(), &mut count) < 4 {
         return;
     }
-    let mut bytes = io::large_buffer();
+    let mut bytes = [0u8; 65536];
     let mut work = [0i32; 65536];
     let t = compare_all(
+        rt,
         four(count[0], count[1], count[2], count[3]),
         &mut bytes,
         &mut work,
     );
-    put(t.compared, b" sheets compared, ");
-    put(t.differ, b" differ, ");
+    put(rt, t.compared, b" sheets compared, ");
+    put(rt, t.differ, b" differ, ");
     put(
+        rt,
         t.unclean,
         b" buffers not zero; noticed of what is planted: ",
     );
-    put(t.wrong_noticed, b" of ");
-    put(t.wrong, b" wrong numbers, ");
-    put(t.changed_noticed, b" of ");
-    put(t.changed, b" changed buffers\n");
+    put(rt, t.wrong_noticed, b" of ");
+    put(rt, t.wrong, b" wrong numbers, ");
+    put(rt, t.changed_noticed, b" of ");
+    put(rt, t.changed, b" changed buffers\n");
 }

@@ -1,5 +1,5 @@
 -- What the event of one thread gives.
-use Rattle.std.specs.Prelude.{◌≡◌, List, ℕ, ◌+◌, ◌≤◌, ◌<◌, length, get_or, ℤ}
+use Rattle.std.specs.Prelude.{◌≡◌, List, ℕ, ◌+◌, ◌≤◌, ◌<◌, get_or, ℤ}
 use Rattle.rules.specs.Constants.{half32, most_threads}
 use Rattle.rules.specs.Search as S
 use Rattle.rules.specs.Search.{unread, states, moved}

@@ -1,49 +1,142 @@
-// Files that a program's arguments name. Why one cannot be opened or read is told on standard error. No contract can say what the
-// system answers: it is named as free.
+// A program's arguments, the files that they name, and bytes that are read and written as far as it goes. Why a file cannot be opened or
+// read, or a text not be written, is told on standard error. No contract can say what the system answers: it is named as free.
 #![tactic(auto)]
 
 ghost use Rattle.std.specs.Prelude.{◌≡◌, ◌+◌, ◌≤◌, length};
 ghost use Rattle.rules.specs.Base.{Free};
 ghost use Rattle.rules.specs.Constants.{longest_sheet};
 
+use std::env::{Env, FillError};
+use std::fs::File;
+use std::io::Read;
+
+mod told; // what is told on standard error
+
+pub use told::{tell, tell_bytes};
+
 // One byte more than a sheet may have, so that a longer one is seen to be too long.
 pub const MOST_OF_SHEET: usize = 16385;
 
-// The file that an argument names, opened; below 0, and the reason on standard error, if it cannot be.
-pub fn opened(i: usize) -> i32
+// Bytes of an argument at most.
+pub const MOST_OF_WORD: usize = 4096;
+
+// ---- the arguments
+
+// An argument at the buffer's front, and how many bytes it has: none where it is missing, or has more than there is room for.
+pub fn word(rt: HostRuntime, i: usize, buffer: &mut [u8]) -> usize
+    ensures in_bounds { result ≤ length buffer.new }
+{
+    match rt.arg(i, buffer) {
+        Ok(n) => n,
+        Err(_) => 0,
+    }
+}
+
+// Whether there is an argument of this number; 0 is the program's own name.
+fn has_word(rt: HostRuntime, i: usize) -> bool {
+    let mut none = [0u8; 1];
+    match rt.arg(i, &mut none) {
+        Ok(_) => true,
+        Err(FillError::TooLong) => true,
+        Err(FillError::NotPresent) => false,
+    }
+}
+
+// How many arguments the program was started with, its own name among them.
+pub fn word_count(rt: HostRuntime) -> usize
     ensures { Free result }
 {
-    let mut path = io::buffer();
-    let n = os::arg(i, &mut path);
-    if os::errno() != 0 {
-        os::fail(b"a path");
-        return -1;
+    for i in 0..usize::MAX {
+        if !has_word(rt, i) {
+            return i;
+        }
     }
-    let fd = os::open_read(&path[..n]);
-    if fd < 0 {
-        os::fail(&path[..n]);
+    usize::MAX
+}
+
+// ---- files
+
+// The file of this path, opened; none, and the reason on standard error, if it cannot be.
+fn opened_at(rt: HostRuntime, path: &[u8]) -> Option<File> {
+    let Ok(text) = str::from_utf8(path) else {
+        tell_bytes(rt, path, b"a path that is not UTF-8");
+        return None;
+    };
+    match File::open(&rt, text) {
+        Ok(file) => Some(file),
+        Err(e) => {
+            tell(rt, path, e);
+            None
+        }
     }
-    fd
+}
+
+// The file that an argument names, opened; none, and the reason on standard error, if it cannot be.
+pub fn opened(rt: HostRuntime, i: usize) -> Option<File>
+    ensures { Free result }
+{
+    let mut path = [0u8; MOST_OF_WORD];
+    match rt.arg(i, &mut path) {
+        Ok(n) => opened_at(rt, &path[..n]),
+        Err(FillError::TooLong) => {
+            tell_bytes(rt, b"a path", b"File name too long");
+            None
+        }
+        Err(FillError::NotPresent) => {
+            tell_bytes(rt, b"a path", b"Invalid argument");
+            None
+        }
+    }
+}
+
+// ---- reading
+
+// How many bytes one read put at the buffer's front: none at the end, and where the read fails.
+fn read_some<R: Read>(from: &mut R, buffer: &mut [u8]) -> usize
+    ensures in_bounds { result ≤ length buffer.new }
+{
+    match from.read(buffer) {
+        Ok(n) => n,
+        Err(_) => 0,
+    }
+}
+
+// Reads until the buffer is full, the bytes end or a read fails, and gives how many bytes it put at the buffer's front.
+pub fn read_full<R: Read>(from: &mut R, buffer: &mut [u8]) -> usize
+    ensures length_kept { length buffer.new ≡ length buffer.old }
+    ensures in_bounds { result ≤ length buffer.new }
+{
+    let mut done: usize = 0;
+    while done < buffer.len() {
+        let n = read_some(from, &mut buffer[done..]);
+        if n == 0 {
+            return done;
+        }
+        done += n;
+    }
+    done
 }
 
 // Reads a sheet as far as there is room, and gives how many bytes it read; which ones is free.
-pub fn read_sheet(fd: i32, sheet: &mut [u8; MOST_OF_SHEET]) -> usize
+pub fn read_sheet<R: Read>(from: &mut R, sheet: &mut [u8; MOST_OF_SHEET]) -> usize
     ensures sheet_len { (length sheet.new ≡ longest_sheet + 1) × (result ≤ longest_sheet + 1) }
     ensures free { Free sheet.new }
 {
-    io::read_full(fd, sheet)
+    read_full(from, sheet)
 }
 
-// Whether one more read goes without an error; if not, the reason is told under the name that the file is called by. `io::read_full`
-// ends at an error as it does at the file's end: asked after it, this tells a file of which only a part was read.
-pub fn reads_on(fd: i32, called: &[u8]) -> bool
+// Whether one more read goes without an error; if not, the reason is told under the name that the file is called by. `read_full` ends at
+// an error as it does at the file's end: asked after it, this tells a file of which only a part was read.
+pub fn reads_on<R: Read>(rt: HostRuntime, from: &mut R, called: &[u8]) -> bool
     ensures free { Free result }
     ensures called_value { called.now ≡ called.now }
 {
     let mut more = [0u8; 1];
-    if libc::read(fd, &mut more) < 0 {
-        os::fail(called);
-        return false;
+    match from.read(&mut more) {
+        Ok(_) => true,
+        Err(e) => {
+            tell(rt, called, e);
+            false
+        }
     }
-    true
 }

@@ -1,9 +1,7 @@
 -- The hull of four values, as the code forms it: two by two, and over the ends of two intervals. For every width. Assumes nothing.
-use Prim.Native.Nat.{ℕ}
 use mathlib.Core.Path.{◌≡◌, ap₂, ◌∙◌}
 use lib.IntN.{ℤ}
-use Rattle.rules.specs.Refusal.{Result}
-use Rattle.rules.specs.Interval.{Interval, interval, min_z, max_z, hull, within}
+use Rattle.rules.specs.Interval.{Interval, interval, min_z, max_z, hull}
 
 -- an operation on what it gives of two pairs
 pub two-by-two : (f : ℤ → ℤ → ℤ) {p q r s x y z : ℤ} → x ≡ f p q → y ≡ f r s → z ≡ f x y → z ≡ f (f p q) (f r s)

@@ -9,7 +9,9 @@ ghost use Rattle.rules.specs.Product.{line};
 ghost use Rattle.label.specs.Shape.{answer_of};
 ghost use Rattle.label_main.specs.Line.{Holds};
 
+use files::read_full;
 use label::{Answer, check};
+use std::io::Print;
 use writing::put_five;
 
 // One byte more than a sheet may have, so that a longer one is seen to be too long.
@@ -45,17 +47,17 @@ fn printed(sheet: &[u8]) -> Line
 }
 
 // Reads standard input as far as there is room, and gives how many bytes it read.
-fn read_sheet(sheet: &mut [u8; MOST_BYTES]) -> usize
+fn read_sheet(rt: HostRuntime, sheet: &mut [u8; MOST_BYTES]) -> usize
     ensures { (length sheet.new ≡ longest_sheet + 1) × (result ≤ longest_sheet + 1) }
 {
-    io::read_full(0, sheet)
+    read_full(&mut rt.stdin(), sheet)
 }
 
-fn main() {
+fn main(rt: HostRuntime) {
     let mut sheet = [0u8; MOST_BYTES];
-    let n = read_sheet(&mut sheet);
+    let n = read_sheet(rt, &mut sheet);
     let l = printed(&sheet[..n]);
     let bytes = l.bytes;
     let end = l.length;
-    io::write_all(1, &bytes[..end]);
+    let _ = rt.write_all(&bytes[..end]);
 }

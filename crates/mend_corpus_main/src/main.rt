@@ -10,6 +10,7 @@ mod entry;
 
 use crate::entry::{FRONT, Front, Verdict, compare, front_of, not_read};
 use corpus::{both, counted, four, put, read_front};
+use files::read_full;
 
 // Bytes of a sheet at most, and of all that is stated of both outputs.
 const ROOM: usize = 20000;
@@ -97,24 +98,23 @@ fn ended(mut t: Tally) -> Tally {
 }
 
 // One entry more. One that the corpus does not hold whole ends the reading.
-fn compare_entry(
-    t: Tally,
+fn compare_entry(rt: HostRuntime, t: Tally,
     sheet: &mut [u8],
     stated: &mut [u8],
     mended: &mut [u8],
     changes: &mut [u32],
 ) -> Tally {
     let mut front = [0u8; FRONT];
-    if io::read_full(0, &mut front) < FRONT {
+    if read_full(&mut rt.stdin(), &mut front) < FRONT {
         return ended(t);
     }
     let f = front_of(&front);
     let n = f.sheet;
     let m = f.stated;
-    if !read_front(sheet, n) {
+    if !read_front(&mut rt.stdin(), sheet, n) {
         return ended(t);
     }
-    if !read_front(stated, m) {
+    if !read_front(&mut rt.stdin(), stated, m) {
         return ended(t);
     }
     let v = lend(f, &sheet[..n], &stated[..m], mended, changes);
@@ -124,8 +124,7 @@ fn compare_entry(
     ended(t)
 }
 
-fn compare_all(
-    count: u64,
+fn compare_all(rt: HostRuntime, count: u64,
     sheet: &mut [u8],
     stated: &mut [u8],
     mended: &mut [u8],
@@ -146,14 +145,14 @@ fn compare_all(
         if t.ended {
             return t;
         }
-        t = compare_entry(t, sheet, stated, mended, changes);
+        t = compare_entry(rt, t, sheet, stated, mended, changes);
     }
     t
 }
 
-fn main() {
+fn main(rt: HostRuntime) {
     let mut count = [0u8; 4];
-    if io::read_full(0, &mut count) < 4 {
+    if read_full(&mut rt.stdin(), &mut count) < 4 {
         return;
     }
     let mut sheet = [0u8; ROOM];
@@ -161,13 +160,13 @@ fn main() {
     let mut mended = [0u8; ROOM];
     let mut changes = [0u32; NUMBERS];
     let n = four(count[0], count[1], count[2], count[3]);
-    let t = compare_all(n, &mut sheet, &mut stated, &mut mended, &mut changes);
-    put(t.mends, b" mends compared, ");
-    put(t.differ, b" differ; noticed of what is planted: ");
-    put(t.numbers_noticed, b" of ");
-    put(t.numbers, b" wrong numbers, ");
-    put(t.sheets_noticed, b" of ");
-    put(t.sheets, b" wrong sheets, ");
-    put(t.lists_noticed, b" of ");
-    put(t.lists, b" wrong lists\n");
+    let t = compare_all(rt, n, &mut sheet, &mut stated, &mut mended, &mut changes);
+    put(rt, t.mends, b" mends compared, ");
+    put(rt, t.differ, b" differ; noticed of what is planted: ");
+    put(rt, t.numbers_noticed, b" of ");
+    put(rt, t.numbers, b" wrong numbers, ");
+    put(rt, t.sheets_noticed, b" of ");
+    put(rt, t.sheets, b" wrong sheets, ");
+    put(rt, t.lists_noticed, b" of ");
+    put(rt, t.lists, b" wrong lists\n");
 }

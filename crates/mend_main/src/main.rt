@@ -9,8 +9,9 @@ ghost use Rattle.writing.specs.Out.{Writes, line_of};
 ghost use Rattle.mend.specs.Shape.{four};
 ghost use Rattle.mend_main.specs.Text as Text;
 
-use libc::{STDERR_FILENO, STDOUT_FILENO};
+use files::{read_full, tell};
 use mend::{Mending, mend_sheet};
+use std::io::Print;
 use writing::put_number;
 
 // One byte more than a sheet may have, so that a longer one is seen to be too long.
@@ -82,21 +83,21 @@ fn answer(sheet: &[u8], mended: &mut [u8], out: &mut [u8]) -> Told
 }
 
 // Reads standard input as far as there is room, and gives how many bytes it read.
-fn read_sheet(sheet: &mut [u8; MOST_BYTES]) -> usize
+fn read_sheet(rt: HostRuntime, sheet: &mut [u8; MOST_BYTES]) -> usize
     ensures { (length sheet.new ≡ longest_sheet + 1) × (result ≤ longest_sheet + 1) }
 {
-    io::read_full(0, sheet)
+    read_full(&mut rt.stdin(), sheet)
 }
 
-fn main() {
+fn main(rt: HostRuntime) {
     let mut sheet = [0u8; MOST_BYTES];
-    let n = read_sheet(&mut sheet);
+    let n = read_sheet(rt, &mut sheet);
     let mut mended = [0u8; LENT_BYTES];
     let mut out = [0u8; LONGEST_TEXT];
     let told = answer(&sheet[..n], &mut mended, &mut out);
-    if !io::write_all(STDOUT_FILENO, &mended[..told.written]) {
-        os::fail(b"standard output");
+    if let Err(e) = rt.write_all(&mended[..told.written]) {
+        tell(rt, b"standard output", e);
         return;
     }
-    io::write_all(STDERR_FILENO, &out[..told.said]);
+    let _ = rt.stderr().write_all(&out[..told.said]);
 }

@@ -77,27 +77,27 @@ module _ (s : Bytes) where
 
   -- one of them
 
-  got-behind : {cs : List Change} (b : ℕ) {p : ℕ} → Halts b cs → GotHalt p cs → b ≤ behind s p
+  got-behind : {p : ℕ} {cs : List Change} (b : ℕ) → Halts b cs → GotHalt p cs → b ≤ behind s p
   got-behind b h this = h.0
   got-behind b h (later {c = exchanged at} g) = got-behind b h g
   got-behind b h (later {c = halt_added at} g) = let l = h.0 in omega (arith, got-behind (suc (behind s at)) h.1 g)
 
-  got-counts : {cs : List Change} (b : ℕ) {p : ℕ} → Halts b cs → GotHalt p cs → 1 ≤ halts_before s cs (behind s p)
+  got-counts : {p : ℕ} {cs : List Change} (b : ℕ) → Halts b cs → GotHalt p cs → 1 ≤ halts_before s cs (behind s p)
   unfolding halts_before
-  got-counts b {p} h (this {cs = cs}) = omega (arith, halt-counts p cs (behind s p) (omega arith))
+  got-counts {p} b h (this {cs = cs}) = omega (arith, halt-counts p cs (behind s p) (omega arith))
   got-counts b h (later {c = exchanged at} g) = got-counts b h g
-  got-counts b {p} h (later {c = halt_added at} {cs = cs} g) =
+  got-counts {p} b h (later {c = halt_added at} {cs = cs} g) =
       let l = got-behind (suc (behind s at)) h.1 g in
       omega (arith, halt-counts at cs (behind s p) (omega arith))
 
-  in-halt : {cs : List Change} (b q : ℕ) {p : ℕ} → Halts b cs → GotHalt p cs → q < moved_to s cs (behind s p) → moved_to s cs (behind s p) ≤ q + 8 → original s cs q ≡ p
+  in-halt : {p : ℕ} {cs : List Change} (b q : ℕ) → Halts b cs → GotHalt p cs → q < moved_to s cs (behind s p) → moved_to s cs (behind s p) ≤ q + 8 → original s cs q ≡ p
   unfolding original halts_before
-  in-halt b q {p} h (this {cs = cs}) k l =
+  in-halt {p} b q h (this {cs = cs}) k l =
       let n = halt-counts p cs (behind s p) (omega arith) in
       let z = none_before (suc (behind s p)) (behind s p) cs (omega arith) h.1 in
       original-in p cs q (omega arith) (omega arith)
   in-halt b q h (later {c = exchanged at} g) k l = in-halt b q h g k l
-  in-halt b q {p} h (later {c = halt_added at} {cs = cs} g) k l =
+  in-halt {p} b q h (later {c = halt_added at} {cs = cs} g) k l =
       let far = got-behind (suc (behind s at)) h.1 g in
       let some = got-counts (suc (behind s at)) h.1 g in
       let n = halt-counts at cs (behind s p) (omega arith) in

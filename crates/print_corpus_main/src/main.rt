@@ -10,6 +10,7 @@ mod entry;
 
 use crate::entry::{FRONT, Verdict, compare, front_of};
 use corpus::{both, counted, four, put, read_front};
+use files::read_full;
 
 // Bytes of a sheet at most, of what is stated, and of what is lent.
 const SHEET: usize = 20000;
@@ -68,25 +69,24 @@ fn ended(mut t: Tally) -> Tally {
 }
 
 // One entry more. One that the corpus does not hold whole ends the reading.
-fn compare_entry(
-    t: Tally,
+fn compare_entry(rt: HostRuntime, t: Tally,
     sheet: &mut [u8],
     stated: &mut [u8],
     text: &mut [u8],
     buffer: &mut [u8],
 ) -> Tally {
     let mut front = [0u8; FRONT];
-    if io::read_full(0, &mut front) < FRONT {
+    if read_full(&mut rt.stdin(), &mut front) < FRONT {
         return ended(t);
     }
     let f = front_of(&front);
     let n = f.sheet;
     let m = f.stated;
     let room = f.room;
-    if !read_front(sheet, n) {
+    if !read_front(&mut rt.stdin(), sheet, n) {
         return ended(t);
     }
-    if !read_front(stated, m) {
+    if !read_front(&mut rt.stdin(), stated, m) {
         return ended(t);
     }
     if text.len() < room {
@@ -96,8 +96,7 @@ fn compare_entry(
     added(t, v, f.planted)
 }
 
-fn compare_all(
-    count: u64,
+fn compare_all(rt: HostRuntime, count: u64,
     sheet: &mut [u8],
     stated: &mut [u8],
     text: &mut [u8],
@@ -119,14 +118,14 @@ fn compare_all(
         if t.ended {
             return t;
         }
-        t = compare_entry(t, sheet, stated, text, buffer);
+        t = compare_entry(rt, t, sheet, stated, text, buffer);
     }
     t
 }
 
-fn main() {
+fn main(rt: HostRuntime) {
     let mut count = [0u8; 4];
-    if io::read_full(0, &mut count) < 4 {
+    if read_full(&mut rt.stdin(), &mut count) < 4 {
         return;
     }
     let mut sheet = [0u8; SHEET];
@@ -134,17 +133,16 @@ fn main() {
     let mut text = [0u8; ROOM];
     let mut buffer = [0u8; SHEET];
     let n = four(count[0], count[1], count[2], count[3]);
-    let t = compare_all(n, &mut sheet, &mut stated, &mut text, &mut buffer);
-    put(t.sheets, b" sheets compared, ");
-    put(t.differ, b" differ; ");
-    put(t.printed, b" printed, ");
-    put(t.back, b" came back, ");
-    put(
-        t.less,
+    let t = compare_all(rt, n, &mut sheet, &mut stated, &mut text, &mut buffer);
+    put(rt, t.sheets, b" sheets compared, ");
+    put(rt, t.differ, b" differ; ");
+    put(rt, t.printed, b" printed, ");
+    put(rt, t.back, b" came back, ");
+    put(rt, t.less,
         b" refused with a byte less; noticed of what is planted: ",
     );
-    put(t.numbers_noticed, b" of ");
-    put(t.numbers, b" wrong numbers, ");
-    put(t.texts_noticed, b" of ");
-    put(t.texts, b" wrong texts\n");
+    put(rt, t.numbers_noticed, b" of ");
+    put(rt, t.numbers, b" wrong numbers, ");
+    put(rt, t.texts_noticed, b" of ");
+    put(rt, t.texts, b" wrong texts\n");
 }

@@ -7,8 +7,9 @@ ghost use Rattle.rules.specs.Constants.{longest_sheet};
 ghost use Rattle.writing.specs.Out.{Writes, longest_refusal};
 ghost use Rattle.print_main.specs.Told as Told;
 
-use libc::{STDERR_FILENO, STDOUT_FILENO};
+use files::{read_full, tell};
 use print::print_sheet;
+use std::io::Print;
 use writing::{LONGEST_REFUSAL, put_refusal};
 
 // One byte more than a sheet may have, so that a longer one is seen to be too long.
@@ -41,21 +42,21 @@ fn answer(sheet: &[u8], text: &mut [u8], out: &mut [u8]) -> Ends
 }
 
 // Reads standard input as far as there is room, and gives how many bytes it read.
-fn read_sheet(sheet: &mut [u8; MOST_BYTES]) -> usize
+fn read_sheet(rt: HostRuntime, sheet: &mut [u8; MOST_BYTES]) -> usize
     ensures { (length sheet.new ≡ longest_sheet + 1) × (result ≤ longest_sheet + 1) }
 {
-    io::read_full(0, sheet)
+    read_full(&mut rt.stdin(), sheet)
 }
 
-fn main() {
+fn main(rt: HostRuntime) {
     let mut sheet = [0u8; MOST_BYTES];
-    let n = read_sheet(&mut sheet);
+    let n = read_sheet(rt, &mut sheet);
     let mut text = [0u8; LENT_BYTES];
     let mut out = [0u8; LONGEST_REFUSAL];
     let ends = answer(&sheet[..n], &mut text, &mut out);
-    if !io::write_all(STDOUT_FILENO, &text[..ends.written]) {
-        os::fail(b"standard output");
+    if let Err(e) = rt.write_all(&text[..ends.written]) {
+        tell(rt, b"standard output", e);
         return;
     }
-    io::write_all(STDERR_FILENO, &out[..ends.said]);
+    let _ = rt.stderr().write_all(&out[..ends.said]);
 }

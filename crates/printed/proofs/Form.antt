@@ -1,4 +1,5 @@
 -- Every printed text has the form.
+use Rattle.std.specs.Prelude.{if◌then◌else◌}
 use mathlib.Core.Path.{◌≡◌, refl}
 use mathlib.Core.Bool.{Bool, true, false}
 use mathlib.Core.Option.{none, some}
@@ -10,11 +11,10 @@ use native.Mathlib.Omega.{arith}
 use borrow.Author.Tests.{lt-ltb, le-ltb, ne_eqb}
 use lib.Dec.{ltb, eqb}
 use lib.IntN.{ℤ, pos, negsuc}
-use Rattle.rules.specs.Base.{if◌then◌else◌}
 use Rattle.rules.specs.Format.{Bytes}
 use Rattle.rules.specs.Product.{bytes, decimal_in, decimal}
 use Rattle.rules.specs.Interval.{Operator, plus, minus, times, divide}
-use Rattle.rules.specs.Program.{Arith, constant, register, operation, less}
+use Rattle.rules.specs.Program.{Arith, constant, register, operation}
 use Rattle.text.specs.Words.{is_digit}
 use Rattle.printed.specs.Print.{print_value, in_parentheses, sign, binding, print_arith}
 use Rattle.printed.specs.Form.{Before, a_space, an_opening, a_dot, a_minus, a_zero, a_digit, a_closing, another, ends_operand, in_number, behind_operand, passed, space_may, no_space, digit_may, may, gone_through}

@@ -5,7 +5,7 @@ use Prim.Native.Nat.{ℕ, suc, ◌+◌}
 use native.Mathlib.Nat.{add-zero}
 use native.Mathlib.Omega.{arith}
 use lib.ListN.{length, set}
-use lib.Seq.{sets, length-sets}
+use lib.Seq.{sets}
 
 pub map-length : {A B : Type 0} (f : A → B) (xs : List A) → length (map f xs) ≡ length xs
 map-length f [] = refl
@@ -28,6 +28,3 @@ table_more f l m base n xs x v len e h =
     (λ i. set (e i) (base + (sym (map-length f xs ∙ len)) i) (sym h i))
     ∙ sym (sets-snoc l base (map f xs) (f x))
     ∙ ap (sets l base) (sym (map_snoc f xs x))
-
-pub same-sets : {B : Type 0} (l m : List B) (i : ℕ) (vs : List B) → m ≡ sets l i vs → length m ≡ length l
-same-sets l m i vs e = ap length e ∙ length-sets l i vs

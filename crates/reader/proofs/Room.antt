@@ -4,7 +4,7 @@ use mathlib.Core.Bool.{Bool}
 use mathlib.Core.List.{List, [], ◌∷◌, ◌++◌}
 use Prim.Native.Nat.{ℕ, zero, suc, ◌+◌, ◌*◌, ◌≤◌}
 use native.Mathlib.Omega.{arith}
-use lib.Dec.{leb, eqb, leb→le, eqb→eq}
+use lib.Dec.{leb, leb→le, eqb→eq}
 use lib.ListN.{length, length-append}
 use Rattle.rules.specs.Base.{Each, nil}
 use Rattle.rules.specs.Constants.{longest_sheet, most_registers, most_threads}

@@ -1,6 +1,6 @@
 // The reader that holds the sheet's bytes and its place in them, and the walk of a sheet by it.
 // Functions over a reader are thin: each takes it apart, calls one that is given the bytes and the place, and hands it back moved
-// on. Tests and loops stand in the functions that they call; these here are proved by hand.
+// on. Tests and loops stand in the functions that they call.
 ghost use Rattle.std.specs.Prelude.{◌≡◌, ◌≤◌, length};
 ghost use Rattle.reader.specs.Index.{greatest_place};
 ghost use Rattle.reader.specs.Walk.{header_part, locks_part, variables_part, index_from, read_on, walked_index};

@@ -9,6 +9,7 @@
 ghost use Rattle.std.specs.Prelude.{◌≤◌, length};
 
 use corpus::{both, counted, four, put, read_front, wide};
+use files::read_full;
 use record::{Followed, follow, number_of_file, number_of_truth};
 
 // Bytes of a sheet and of a record at most.
@@ -105,22 +106,22 @@ fn ended(mut t: Tally) -> Tally {
 }
 
 // One entry more. One that the corpus does not hold whole ends the reading.
-fn compare_next(t: Tally, sheet: &mut [u8], recorded: &mut [u8]) -> Tally {
+fn compare_next(rt: HostRuntime, t: Tally, sheet: &mut [u8], recorded: &mut [u8]) -> Tally {
     let mut front = [0u8; 20];
-    if io::read_full(0, &mut front) < 20 {
+    if read_full(&mut rt.stdin(), &mut front) < 20 {
         return ended(t);
     }
     let e = entry_of(&front);
-    if !read_front(sheet, e.sheet) {
+    if !read_front(&mut rt.stdin(), sheet, e.sheet) {
         return ended(t);
     }
-    if !read_front(recorded, e.recorded) {
+    if !read_front(&mut rt.stdin(), recorded, e.recorded) {
         return ended(t);
     }
     added(t, compare_fronts(e, sheet, recorded), e.planted)
 }
 
-fn compare_all(count: u64, sheet: &mut [u8], recorded: &mut [u8]) -> Tally {
+fn compare_all(rt: HostRuntime, count: u64, sheet: &mut [u8], recorded: &mut [u8]) -> Tally {
     let mut t = Tally {
         compared: 0,
         differ: 0,
@@ -129,7 +130,7 @@ fn compare_all(count: u64, sheet: &mut [u8], recorded: &mut [u8]) -> Tally {
         ended: false,
     };
     for _ in 0..count {
-        t = compare_next(t, sheet, recorded);
+        t = compare_next(rt, t, sheet, recorded);
         if t.ended {
             return t;
         }
@@ -137,17 +138,17 @@ fn compare_all(count: u64, sheet: &mut [u8], recorded: &mut [u8]) -> Tally {
     t
 }
 
-fn main() {
+fn main(rt: HostRuntime) {
     let mut count = [0u8; 4];
-    if io::read_full(0, &mut count) < 4 {
+    if read_full(&mut rt.stdin(), &mut count) < 4 {
         return;
     }
     let mut sheet = [0u8; SHEET_ROOM];
     let mut recorded = [0u8; RECORD_ROOM];
     let n = four(count[0], count[1], count[2], count[3]);
-    let t = compare_all(n, &mut sheet, &mut recorded);
-    put(t.compared, b" records compared, ");
-    put(t.differ, b" differ; noticed of what is planted: ");
-    put(t.numbers_noticed, b" of ");
-    put(t.numbers, b" wrong numbers\n");
+    let t = compare_all(rt, n, &mut sheet, &mut recorded);
+    put(rt, t.compared, b" records compared, ");
+    put(rt, t.differ, b" differ; noticed of what is planted: ");
+    put(rt, t.numbers_noticed, b" of ");
+    put(rt, t.numbers, b" wrong numbers\n");
 }

@@ -10,9 +10,10 @@ ghost use Rattle.recorded.specs.Follow.{longest_record};
 ghost use Rattle.record.specs.Shape.{followed_of};
 ghost use Rattle.record_main.specs.Line.{longest_line, line, printed};
 
-use files::{MOST_OF_SHEET, opened, read_sheet, reads_on};
-use libc::{STDERR_FILENO, STDOUT_FILENO};
+use files::{MOST_OF_SHEET, opened, read_full, read_sheet, reads_on, tell, word_count};
 use record::{Followed, follow, number_of_file, number_of_truth};
+use std::fs::File;
+use std::io::Print;
 use writing::put_number;
 
 // One byte more than a record may have, so that a longer one is seen to be too long, and the rule gives it its number.
@@ -45,49 +46,47 @@ fn answer(sheet: &[u8], recorded: &[u8], out: &mut [u8]) -> usize
     put_line(out, a)
 }
 
-fn put_answer(sheet: &[u8], recorded: &[u8]) {
+fn put_answer(rt: HostRuntime, sheet: &[u8], recorded: &[u8]) {
     let mut out = [0u8; LONGEST_LINE];
     let end = answer(sheet, recorded, &mut out);
-    if !io::write_all(STDOUT_FILENO, &out[..end]) {
-        os::fail(b"standard output");
+    if let Err(e) = rt.write_all(&out[..end]) {
+        tell(rt, b"standard output", e);
     }
 }
 
 // ---- the files
 
 // Reads a record as far as there is room, and gives how many bytes it read.
-fn read_record(fd: i32, recorded: &mut [u8; MOST_OF_RECORD]) -> usize
+fn read_record(from: &mut File, recorded: &mut [u8; MOST_OF_RECORD]) -> usize
     ensures { (length recorded.new ≡ longest_record + 1) × (result ≤ longest_record + 1) }
 {
-    io::read_full(fd, recorded)
+    read_full(from, recorded)
 }
 
-fn follow_files(one: i32, two: i32) {
+fn follow_files(rt: HostRuntime, one: &mut File, two: &mut File) {
     let mut sheet = [0u8; MOST_OF_SHEET];
     let n = read_sheet(one, &mut sheet);
-    if !reads_on(one, b"SHEET") {
+    if !reads_on(rt, one, b"SHEET") {
         return;
     }
     let mut recorded = [0u8; MOST_OF_RECORD];
     let m = read_record(two, &mut recorded);
-    if !reads_on(two, b"RECORD") {
+    if !reads_on(rt, two, b"RECORD") {
         return;
     }
-    put_answer(&sheet[..n], &recorded[..m]);
+    put_answer(rt, &sheet[..n], &recorded[..m]);
 }
 
-fn main() {
-    if os::arg_count() != 3 {
-        io::write_all(STDERR_FILENO, b"usage: record_main SHEET RECORD\n");
+fn main(rt: HostRuntime) {
+    if word_count(rt) != 3 {
+        let _ = rt.stderr().write_all(b"usage: record_main SHEET RECORD\n");
         return;
     }
-    let one = opened(1);
-    if one < 0 {
+    let Some(mut one) = opened(rt, 1) else {
         return;
-    }
-    let two = opened(2);
-    if two < 0 {
+    };
+    let Some(mut two) = opened(rt, 2) else {
         return;
-    }
-    follow_files(one, two);
+    };
+    follow_files(rt, &mut one, &mut two);
 }

@@ -1,4 +1,5 @@
 // Bytes that are lent: filled, looked at, changed and read.
+use files::read_full;
 
 // What a copy buffer holds before each call.
 const FILLED: u8 = 7;
@@ -43,12 +44,12 @@ pub(crate) fn turn(bytes: &mut [u8], at: usize) {
 }
 
 // Reads the next n bytes of standard input to this place; false where there are fewer, or no room for them.
-pub(crate) fn read_part(bytes: &mut [u8], at: usize, n: usize) -> bool {
+pub(crate) fn read_part(rt: HostRuntime, bytes: &mut [u8], at: usize, n: usize) -> bool {
     if bytes.len() < at {
         return false;
     }
     if bytes.len() - at < n {
         return false;
     }
-    io::read_full(0, &mut bytes[at..at + n]) == n
+    read_full(&mut rt.stdin(), &mut bytes[at..at + n]) == n
 }

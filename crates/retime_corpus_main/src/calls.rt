@@ -109,6 +109,7 @@ fn preview(
 
 // The preview, then the change. The second buffer holds what the sheet was, then what it is to be.
 fn compare_calls(
+    rt: HostRuntime,
     e: Entry,
     sheet: &mut [u8],
     stated: &mut [u8],
@@ -116,7 +117,7 @@ fn compare_calls(
     work: &mut [i32],
 ) -> Verdict {
     let v = preview(e, sheet, stated, copy, work);
-    if !read_part(stated, e.at, e.otherwise) {
+    if !read_part(rt, stated, e.at, e.otherwise) {
         return not_read();
     }
     let c = change_times(sheet, e.thread, e.statement, e.least, e.greatest);
@@ -130,6 +131,7 @@ fn compare_calls(
 
 // Both calls, with a copy of the sheet to compare with.
 pub(crate) fn compare(
+    rt: HostRuntime,
     e: Entry,
     sheet: &mut [u8],
     stated: &mut [u8],
@@ -137,7 +139,7 @@ pub(crate) fn compare(
     work: &mut [i32],
 ) -> Verdict {
     if copy_bytes(sheet, stated) {
-        return compare_calls(e, sheet, stated, copy, work);
+        return compare_calls(rt, e, sheet, stated, copy, work);
     }
     not_read()
 }

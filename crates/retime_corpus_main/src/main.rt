@@ -14,6 +14,7 @@ mod entry;
 use crate::calls::{Verdict, compare, not_read};
 use crate::entry::{Entry, entry_of};
 use corpus::{both, counted, four, put, read_front};
+use files::read_full;
 
 // Bytes of a sheet and of a copy buffer at most.
 const ROOM: usize = 20000;
@@ -43,6 +44,7 @@ struct Tally {
 
 // Lends the front of the work buffer.
 fn lend_work(
+    rt: HostRuntime,
     e: Entry,
     sheet: &mut [u8],
     stated: &mut [u8],
@@ -53,11 +55,12 @@ fn lend_work(
     if work.len() < n {
         return not_read();
     }
-    compare(e, sheet, stated, copy, &mut work[..n])
+    compare(rt, e, sheet, stated, copy, &mut work[..n])
 }
 
 // The same of the copy buffer.
 fn lend_copy(
+    rt: HostRuntime,
     e: Entry,
     sheet: &mut [u8],
     stated: &mut [u8],
@@ -68,11 +71,12 @@ fn lend_copy(
     if copy.len() < n {
         return not_read();
     }
-    lend_work(e, sheet, stated, &mut copy[..n], work)
+    lend_work(rt, e, sheet, stated, &mut copy[..n], work)
 }
 
 // The same of both buffers for the sheet.
 fn lend_sheet(
+    rt: HostRuntime,
     e: Entry,
     sheet: &mut [u8],
     stated: &mut [u8],
@@ -86,7 +90,7 @@ fn lend_sheet(
     if stated.len() < n {
         return not_read();
     }
-    lend_copy(e, &mut sheet[..n], &mut stated[..n], copy, work)
+    lend_copy(rt, e, &mut sheet[..n], &mut stated[..n], copy, work)
 }
 
 fn added(t: Tally, v: Verdict, planted: u64) -> Tally {
@@ -115,6 +119,7 @@ fn ended(mut t: Tally) -> Tally {
 
 // One entry more. One that the corpus does not hold whole ends the reading.
 fn compare_next(
+    rt: HostRuntime,
     t: Tally,
     sheet: &mut [u8],
     stated: &mut [u8],
@@ -122,14 +127,14 @@ fn compare_next(
     work: &mut [i32],
 ) -> Tally {
     let mut front = [0u8; 69];
-    if io::read_full(0, &mut front) < 69 {
+    if read_full(&mut rt.stdin(), &mut front) < 69 {
         return ended(t);
     }
     let e = entry_of(&front);
-    if !read_front(sheet, e.sheet) {
+    if !read_front(&mut rt.stdin(), sheet, e.sheet) {
         return ended(t);
     }
-    let v = lend_sheet(e, sheet, stated, copy, work);
+    let v = lend_sheet(rt, e, sheet, stated, copy, work);
     if v.read {
         return added(t, v, e.planted);
     }
@@ -137,6 +142,7 @@ fn compare_next(
 }
 
 fn compare_all(
+    rt: HostRuntime,
     count: u64,
     sheet: &mut [u8],
     stated: &mut [u8],
@@ -156,7 +162,7 @@ fn compare_all(
         ended: false,
     };
     for _ in 0..count {
-        t = compare_next(t, sheet, stated, copy, work);
+        t = compare_next(rt, t, sheet, stated, copy, work);
         if t.ended {
             return t;
         }
@@ -164,9 +170,9 @@ fn compare_all(
     t
 }
 
-fn main() {
+fn main(rt: HostRuntime) {
     let mut count = [0u8; 4];
-    if io::read_full(0, &mut count) < 4 {
+    if read_full(&mut rt.stdin(), &mut count) < 4 {
         return;
     }
     let mut sheet = [0u8; ROOM];
@@ -174,14 +180,18 @@ fn main() {
     let mut copy = [0u8; ROOM];
     let mut work = [0i32; WORK_ROOM];
     let n = four(count[0], count[1], count[2], count[3]);
-    let t = compare_all(n, &mut sheet, &mut stated, &mut copy, &mut work);
-    put(t.compared, b" changes compared, ");
-    put(t.differ, b" differ, ");
-    put(t.unclean, b" not left clean; noticed of what is planted: ");
-    put(t.numbers_noticed, b" of ");
-    put(t.numbers, b" wrong numbers, ");
-    put(t.sheets_noticed, b" of ");
-    put(t.sheets, b" wrong sheets, ");
-    put(t.changed_noticed, b" of ");
-    put(t.changed, b" changed buffers\n");
+    let t = compare_all(rt, n, &mut sheet, &mut stated, &mut copy, &mut work);
+    put(rt, t.compared, b" changes compared, ");
+    put(rt, t.differ, b" differ, ");
+    put(
+        rt,
+        t.unclean,
+        b" not left clean; noticed of what is planted: ",
+    );
+    put(rt, t.numbers_noticed, b" of ");
+    put(rt, t.numbers, b" wrong numbers, ");
+    put(rt, t.sheets_noticed, b" of ");
+    put(rt, t.sheets, b" wrong sheets, ");
+    put(rt, t.changed_noticed, b" of ");
+    put(rt, t.changed, b" changed buffers\n");
 }

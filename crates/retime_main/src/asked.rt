@@ -3,6 +3,7 @@ ghost use Rattle.std.specs.Prelude.{◌≡◌};
 ghost use Rattle.retime_main.specs.Words.{asked_in, back_in, Says};
 
 use digits::{Number, number_in};
+use files::{MOST_OF_WORD, word};
 use retime::Change;
 
 #[derive(Clone, Copy)]
@@ -45,15 +46,15 @@ fn asked_in(thread: &[u8], statement: &[u8], least: &[u8], greatest: &[u8]) -> G
 
 // The four words behind SHEET: of new times all, of a change taken back the statement and its old times. One that is missing, or has
 // more than 4,096 bytes, writes no number.
-pub(crate) fn times_given() -> Given {
-    let mut thread = io::buffer();
-    let a = os::arg(2, &mut thread);
-    let mut statement = io::buffer();
-    let b = os::arg(3, &mut statement);
-    let mut least = io::buffer();
-    let c = os::arg(4, &mut least);
-    let mut greatest = io::buffer();
-    let d = os::arg(5, &mut greatest);
+pub(crate) fn times_given(rt: HostRuntime) -> Given {
+    let mut thread = [0u8; MOST_OF_WORD];
+    let a = word(rt, 2, &mut thread);
+    let mut statement = [0u8; MOST_OF_WORD];
+    let b = word(rt, 3, &mut statement);
+    let mut least = [0u8; MOST_OF_WORD];
+    let c = word(rt, 4, &mut least);
+    let mut greatest = [0u8; MOST_OF_WORD];
+    let d = word(rt, 5, &mut greatest);
     asked_in(&thread[..a], &statement[..b], &least[..c], &greatest[..d])
 }
 
@@ -87,12 +88,12 @@ fn back_in(old: Given, least: &[u8], greatest: &[u8]) -> Back
 }
 
 // What the six words behind SHEET say.
-pub(crate) fn back_given() -> Back {
-    let old = times_given();
-    let mut least = io::buffer();
-    let a = os::arg(6, &mut least);
-    let mut greatest = io::buffer();
-    let b = os::arg(7, &mut greatest);
+pub(crate) fn back_given(rt: HostRuntime) -> Back {
+    let old = times_given(rt);
+    let mut least = [0u8; MOST_OF_WORD];
+    let a = word(rt, 6, &mut least);
+    let mut greatest = [0u8; MOST_OF_WORD];
+    let b = word(rt, 7, &mut greatest);
     back_in(old, &least[..a], &greatest[..b])
 }
 
@@ -122,8 +123,8 @@ fn says_write(word: &[u8]) -> bool
 }
 
 // Whether the last argument is `write`.
-pub(crate) fn write_given() -> bool {
-    let mut word = io::buffer();
-    let n = os::arg(6, &mut word);
-    says_write(&word[..n])
+pub(crate) fn write_given(rt: HostRuntime) -> bool {
+    let mut given = [0u8; MOST_OF_WORD];
+    let n = word(rt, 6, &mut given);
+    says_write(&given[..n])
 }

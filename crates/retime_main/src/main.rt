@@ -19,104 +19,102 @@ ghost use Rattle.rules.specs.Constants.{longest_sheet};
 
 use crate::asked::{Asked, Back, Given, back_given, times_given, write_given};
 use crate::lines::{LONGEST_PRINTED, LONGEST_WRITTEN, change, preview, take_back_in};
-use files::{MOST_OF_SHEET, opened, read_sheet, reads_on};
-use libc::{STDERR_FILENO, STDOUT_FILENO};
+use files::{MOST_OF_SHEET, opened, read_sheet, reads_on, tell, word_count};
 use retime::Change;
+use std::fs::File;
+use std::io::Print;
 
-fn put_out(bytes: &[u8]) {
-    if !io::write_all(STDOUT_FILENO, bytes) {
-        os::fail(b"standard output");
+fn put_out(rt: HostRuntime, bytes: &[u8]) {
+    if let Err(e) = rt.write_all(bytes) {
+        tell(rt, b"standard output", e);
     }
 }
 
-fn put_preview(sheet: &[u8], a: Asked) {
+fn put_preview(rt: HostRuntime, sheet: &[u8], a: Asked) {
     let mut out = [0u8; LONGEST_PRINTED];
     let end = preview(sheet, a, &mut out);
-    put_out(&out[..end]);
+    put_out(rt, &out[..end]);
 }
 
-fn put_change(sheet: &mut [u8], a: Asked)
+fn put_change(rt: HostRuntime, sheet: &mut [u8], a: Asked)
     requires { length sheet.old ≤ longest_sheet + 1 }
 {
     let mut out = [0u8; LONGEST_WRITTEN];
     let end = change(sheet, a, &mut out);
-    put_out(&out[..end]);
+    put_out(rt, &out[..end]);
 }
 
-fn put_back(sheet: &mut [u8], c: Change)
+fn put_back(rt: HostRuntime, sheet: &mut [u8], c: Change)
     requires { length sheet.old ≤ longest_sheet + 1 }
 {
     let mut out = [0u8; LONGEST_WRITTEN];
     let end = take_back_in(sheet, c, &mut out);
-    put_out(&out[..end]);
+    put_out(rt, &out[..end]);
 }
 
 // New times, previewed or written.
-fn retime_file(fd: i32, a: Asked, writes: bool) {
+fn retime_file(rt: HostRuntime, from: &mut File, a: Asked, writes: bool) {
     let mut sheet = [0u8; MOST_OF_SHEET];
-    let n = read_sheet(fd, &mut sheet);
-    if !reads_on(fd, b"SHEET") {
+    let n = read_sheet(from, &mut sheet);
+    if !reads_on(rt, from, b"SHEET") {
         return;
     }
     if writes {
-        put_change(&mut sheet[..n], a);
+        put_change(rt, &mut sheet[..n], a);
         return;
     }
-    put_preview(&sheet[..n], a);
+    put_preview(rt, &sheet[..n], a);
 }
 
 // A change taken back.
-fn restore_file(fd: i32, c: Change) {
+fn restore_file(rt: HostRuntime, from: &mut File, c: Change) {
     let mut sheet = [0u8; MOST_OF_SHEET];
-    let n = read_sheet(fd, &mut sheet);
-    if reads_on(fd, b"SHEET") {
-        put_back(&mut sheet[..n], c);
+    let n = read_sheet(from, &mut sheet);
+    if reads_on(rt, from, b"SHEET") {
+        put_back(rt, &mut sheet[..n], c);
     }
 }
 
-fn usage() {
-    io::write_all(
-        STDERR_FILENO,
+fn usage(rt: HostRuntime) {
+    let _ = rt.stderr().write_all(
         b"usage: retime_main SHEET THREAD STATEMENT LEAST GREATEST [write], or SHEET THREAD STATEMENT OLD_LEAST OLD_GREATEST NEW_LEAST NEW_GREATEST, numbers in decimal\n",
     );
 }
 
-fn retime_given(writes: bool) {
-    let Given::Asks(a) = times_given() else {
-        usage();
+fn retime_given(rt: HostRuntime, writes: bool) {
+    let Given::Asks(a) = times_given(rt) else {
+        usage(rt);
         return;
     };
-    let fd = opened(1);
-    if fd < 0 {
-        return;
-    }
-    retime_file(fd, a, writes);
-}
-
-fn restore_given() {
-    let Back::Takes(c) = back_given() else {
-        usage();
+    let Some(mut file) = opened(rt, 1) else {
         return;
     };
-    let fd = opened(1);
-    if fd < 0 {
-        return;
-    }
-    restore_file(fd, c);
+    retime_file(rt, &mut file, a, writes);
 }
 
-fn main() {
-    let count = os::arg_count();
+fn restore_given(rt: HostRuntime) {
+    let Back::Takes(c) = back_given(rt) else {
+        usage(rt);
+        return;
+    };
+    let Some(mut file) = opened(rt, 1) else {
+        return;
+    };
+    restore_file(rt, &mut file, c);
+}
+
+fn main(rt: HostRuntime) {
+    let count = word_count(rt);
     match count {
-        6 => retime_given(false),
+        6 => retime_given(rt, false),
         7 => {
-            if write_given() {
-                retime_given(true);
+            if write_given(rt) {
+                retime_given(rt, true);
                 return;
             }
-            usage();
+            usage(rt);
         }
-        8 => restore_given(),
-        _ => usage(),
+        8 => restore_given(rt),
+        _ => usage(rt),
     }
 }

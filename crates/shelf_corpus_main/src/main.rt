@@ -9,6 +9,7 @@
 ghost use Rattle.std.specs.Prelude.{◌≡◌, ◌≤◌, length};
 
 use corpus::{both, counted, four, put, read_front, wide};
+use files::read_full;
 use shelf::lookup;
 
 // Bytes of a file at most.
@@ -196,22 +197,22 @@ fn ended(mut t: Tally) -> Tally {
 }
 
 // One entry more. One that the corpus does not hold whole ends the reading.
-fn compare_next(t: Tally, customer: &mut [u8], house: &mut [u8]) -> Tally {
+fn compare_next(rt: HostRuntime, t: Tally, customer: &mut [u8], house: &mut [u8]) -> Tally {
     let mut front = [0u8; 20];
-    if io::read_full(0, &mut front) < 20 {
+    if read_full(&mut rt.stdin(), &mut front) < 20 {
         return ended(t);
     }
     let e = entry_of(&front);
-    if !read_front(customer, e.customer) {
+    if !read_front(&mut rt.stdin(), customer, e.customer) {
         return ended(t);
     }
-    if !read_front(house, e.house) {
+    if !read_front(&mut rt.stdin(), house, e.house) {
         return ended(t);
     }
     added(t, compare_fronts(e, customer, house), e.planted)
 }
 
-fn compare_all(count: u64, customer: &mut [u8], house: &mut [u8]) -> Tally {
+fn compare_all(rt: HostRuntime, count: u64, customer: &mut [u8], house: &mut [u8]) -> Tally {
     let mut t = Tally {
         compared: 0,
         differ: 0,
@@ -222,7 +223,7 @@ fn compare_all(count: u64, customer: &mut [u8], house: &mut [u8]) -> Tally {
         ended: false,
     };
     for _ in 0..count {
-        t = compare_next(t, customer, house);
+        t = compare_next(rt, t, customer, house);
         if t.ended {
             return t;
         }
@@ -230,19 +231,19 @@ fn compare_all(count: u64, customer: &mut [u8], house: &mut [u8]) -> Tally {
     t
 }
 
-fn main() {
+fn main(rt: HostRuntime) {
     let mut count = [0u8; 4];
-    if io::read_full(0, &mut count) < 4 {
+    if read_full(&mut rt.stdin(), &mut count) < 4 {
         return;
     }
     let mut customer = [0u8; LONGEST];
     let mut house = [0u8; LONGEST];
     let n = four(count[0], count[1], count[2], count[3]);
-    let t = compare_all(n, &mut customer, &mut house);
-    put(t.compared, b" lookups compared, ");
-    put(t.differ, b" differ; noticed of what is planted: ");
-    put(t.numbers_noticed, b" of ");
-    put(t.numbers, b" wrong numbers, ");
-    put(t.parts_noticed, b" of ");
-    put(t.parts, b" wrong parts\n");
+    let t = compare_all(rt, n, &mut customer, &mut house);
+    put(rt, t.compared, b" lookups compared, ");
+    put(rt, t.differ, b" differ; noticed of what is planted: ");
+    put(rt, t.numbers_noticed, b" of ");
+    put(rt, t.numbers, b" wrong numbers, ");
+    put(rt, t.parts_noticed, b" of ");
+    put(rt, t.parts, b" wrong parts\n");
 }

@@ -8,9 +8,10 @@ ghost use Rattle.writing.specs.Out.{Writes};
 ghost use Rattle.shelf_main.specs.Text.{longest_file, longest_line, name_of, name_in, line_unless_found, written, said};
 
 use digits::{Number, number_in};
-use files::{opened, reads_on};
-use libc::{STDERR_FILENO, STDOUT_FILENO};
+use files::{MOST_OF_WORD, opened, read_full, reads_on, tell, tell_bytes, word, word_count};
 use shelf::lookup;
+use std::fs::File;
+use std::io::Print;
 use writing::put_number;
 
 // One byte more than the longest file that is looked into, so that a longer one is seen to be too long.
@@ -48,9 +49,9 @@ fn name_in(word: &[u8]) -> Name
     name_of(n)
 }
 
-fn name_given() -> Name {
-    let mut given = io::buffer();
-    let n = os::arg(1, &mut given);
+fn name_given(rt: HostRuntime) -> Name {
+    let mut given = [0u8; MOST_OF_WORD];
+    let n = word(rt, 1, &mut given);
     name_in(&given[..n])
 }
 
@@ -89,72 +90,65 @@ fn answer<'a>(
     sheet
 }
 
-fn put_answer<'a>(name: u8, customer: &'a [u8], house: &'a [u8]) {
+fn put_answer<'a>(rt: HostRuntime, name: u8, customer: &'a [u8], house: &'a [u8]) {
     let mut out = [0u8; LONGEST_LINE];
     let mut end: usize = 0;
     let sheet = answer(name, customer, house, &mut out, &mut end);
-    if !io::write_all(STDOUT_FILENO, sheet) {
-        os::fail(b"standard output");
+    if let Err(e) = rt.write_all(sheet) {
+        tell(rt, b"standard output", e);
     }
-    io::write_all(STDERR_FILENO, &out[..end]);
+    let _ = rt.stderr().write_all(&out[..end]);
 }
 
 // ---- the files
 
 // Reads a file as far as there is room, and gives how many bytes it read.
-fn read_file(fd: i32, file: &mut [u8; MOST_BYTES]) -> usize
+fn read_file(from: &mut File, file: &mut [u8; MOST_BYTES]) -> usize
     ensures { (length file.new ≡ longest_file + 1) × (result ≤ longest_file + 1) }
 {
-    io::read_full(fd, file)
+    read_full(from, file)
 }
 
 // Whether n bytes are the whole file: it is not longer than is looked into, and the reading did not end in an error.
-fn is_whole(fd: i32, n: usize, called: &[u8]) -> bool {
+fn is_whole(rt: HostRuntime, from: &mut File, n: usize, called: &[u8]) -> bool {
     if n == MOST_BYTES {
-        io::write_all(STDERR_FILENO, called);
-        io::write_all(
-            STDERR_FILENO,
-            b": more than 1,000,000 bytes are not looked into\n",
-        );
+        tell_bytes(rt, called, b"more than 1,000,000 bytes are not looked into");
         return false;
     }
-    reads_on(fd, called)
+    reads_on(rt, from, called)
 }
 
-fn look(name: u8, one: i32, two: i32) {
+fn look(rt: HostRuntime, name: u8, one: &mut File, two: &mut File) {
     let mut customer = [0u8; MOST_BYTES];
     let n = read_file(one, &mut customer);
-    if !is_whole(one, n, b"HIS") {
+    if !is_whole(rt, one, n, b"HIS") {
         return;
     }
     let mut house = [0u8; MOST_BYTES];
     let m = read_file(two, &mut house);
-    if !is_whole(two, m, b"OURS") {
+    if !is_whole(rt, two, m, b"OURS") {
         return;
     }
-    put_answer(name, &customer[..n], &house[..m]);
+    put_answer(rt, name, &customer[..n], &house[..m]);
 }
 
-fn main() {
-    if os::arg_count() != 4 {
-        io::write_all(STDERR_FILENO, b"usage: shelf_main NAME HIS OURS\n");
+fn main(rt: HostRuntime) {
+    if word_count(rt) != 4 {
+        let _ = rt.stderr().write_all(b"usage: shelf_main NAME HIS OURS\n");
         return;
     }
-    let given = name_given();
+    let given = name_given(rt);
     let Name::Is(name) = given else {
-        io::write_all(
-            STDERR_FILENO,
-            b"a name is a number from 0 to 255, in decimal\n",
-        );
+        let _ = rt
+            .stderr()
+            .write_all(b"a name is a number from 0 to 255, in decimal\n");
         return;
     };
-    let one = opened(2);
-    if one < 0 {
+    let Some(mut one) = opened(rt, 2) else {
         return;
-    }
-    let two = opened(3);
-    if two < 0 {
+    };
+    let Some(mut two) = opened(rt, 3) else {
         return;
-    }
-    look(name, one, two);
+    };
+    look(rt, name, &mut one, &mut two);
 }

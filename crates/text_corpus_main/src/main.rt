@@ -9,6 +9,7 @@ mod entry;
 
 use crate::entry::{FRONT, Verdict, compare, front_of};
 use corpus::{both, counted, four, put, read_front};
+use files::read_full;
 
 // Bytes of a text at most, and of what is lent.
 const TEXT: usize = 70000;
@@ -59,18 +60,18 @@ fn ended(mut t: Tally) -> Tally {
 }
 
 // One entry more. One that the corpus does not hold whole ends the reading.
-fn compare_entry(t: Tally, text: &mut [u8], stated: &mut [u8], sheet: &mut [u8]) -> Tally {
+fn compare_entry(rt: HostRuntime, t: Tally, text: &mut [u8], stated: &mut [u8], sheet: &mut [u8]) -> Tally {
     let mut front = [0u8; FRONT];
-    if io::read_full(0, &mut front) < FRONT {
+    if read_full(&mut rt.stdin(), &mut front) < FRONT {
         return ended(t);
     }
     let f = front_of(&front);
     let n = f.text;
     let m = f.room;
-    if !read_front(text, n) {
+    if !read_front(&mut rt.stdin(), text, n) {
         return ended(t);
     }
-    if !read_front(stated, m) {
+    if !read_front(&mut rt.stdin(), stated, m) {
         return ended(t);
     }
     if sheet.len() < m {
@@ -80,7 +81,7 @@ fn compare_entry(t: Tally, text: &mut [u8], stated: &mut [u8], sheet: &mut [u8])
     added(t, v, f.planted)
 }
 
-fn compare_all(count: u64, text: &mut [u8], stated: &mut [u8], sheet: &mut [u8]) -> Tally {
+fn compare_all(rt: HostRuntime, count: u64, text: &mut [u8], stated: &mut [u8], sheet: &mut [u8]) -> Tally {
     let mut t = Tally {
         texts: 0,
         differ: 0,
@@ -94,25 +95,25 @@ fn compare_all(count: u64, text: &mut [u8], stated: &mut [u8], sheet: &mut [u8])
         if t.ended {
             return t;
         }
-        t = compare_entry(t, text, stated, sheet);
+        t = compare_entry(rt, t, text, stated, sheet);
     }
     t
 }
 
-fn main() {
+fn main(rt: HostRuntime) {
     let mut count = [0u8; 4];
-    if io::read_full(0, &mut count) < 4 {
+    if read_full(&mut rt.stdin(), &mut count) < 4 {
         return;
     }
     let mut text = [0u8; TEXT];
     let mut stated = [0u8; ROOM];
     let mut sheet = [0u8; ROOM];
     let n = four(count[0], count[1], count[2], count[3]);
-    let t = compare_all(n, &mut text, &mut stated, &mut sheet);
-    put(t.texts, b" texts compared, ");
-    put(t.differ, b" differ; noticed of what is planted: ");
-    put(t.numbers_noticed, b" of ");
-    put(t.numbers, b" wrong numbers, ");
-    put(t.sheets_noticed, b" of ");
-    put(t.sheets, b" wrong sheets\n");
+    let t = compare_all(rt, n, &mut text, &mut stated, &mut sheet);
+    put(rt, t.texts, b" texts compared, ");
+    put(rt, t.differ, b" differ; noticed of what is planted: ");
+    put(rt, t.numbers_noticed, b" of ");
+    put(rt, t.numbers, b" wrong numbers, ");
+    put(rt, t.sheets_noticed, b" of ");
+    put(rt, t.sheets, b" wrong sheets\n");
 }

@@ -8,7 +8,8 @@ ghost use Rattle.writing.specs.Out.{Writes, longest_refusal};
 ghost use Rattle.text_main.specs.Told as Told;
 
 use convert::convert_text;
-use libc::{STDERR_FILENO, STDOUT_FILENO};
+use files::{read_full, tell};
+use std::io::Print;
 use writing::{LONGEST_REFUSAL, put_refusal};
 
 // What a text may have here, and one byte more, so that a longer one is seen to be longer.
@@ -43,25 +44,25 @@ fn answer(text: &[u8], sheet: &mut [u8], out: &mut [u8]) -> Ends
 }
 
 // Reads standard input as far as there is room, and gives how many bytes it read.
-fn read_text(text: &mut [u8; READ_TEXT]) -> usize
+fn read_text(rt: HostRuntime, text: &mut [u8; READ_TEXT]) -> usize
     ensures { (length text.new ≡ 1048577) × (result ≤ 1048577) }
 {
-    io::read_full(0, text)
+    read_full(&mut rt.stdin(), text)
 }
 
-fn main() {
+fn main(rt: HostRuntime) {
     let mut text = [0u8; READ_TEXT];
-    let n = read_text(&mut text);
+    let n = read_text(rt, &mut text);
     if MOST_TEXT < n {
-        io::write_all(STDERR_FILENO, b"text: more than 1048576 bytes\n");
+        let _ = rt.stderr().write_all(b"text: more than 1048576 bytes\n");
         return;
     }
     let mut sheet = [0u8; LENT_BYTES];
     let mut out = [0u8; LONGEST_REFUSAL];
     let ends = answer(&text[..n], &mut sheet, &mut out);
-    if !io::write_all(STDOUT_FILENO, &sheet[..ends.written]) {
-        os::fail(b"standard output");
+    if let Err(e) = rt.write_all(&sheet[..ends.written]) {
+        tell(rt, b"standard output", e);
         return;
     }
-    io::write_all(STDERR_FILENO, &out[..ends.said]);
+    let _ = rt.stderr().write_all(&out[..ends.said]);
 }

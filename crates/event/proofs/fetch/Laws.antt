@@ -11,7 +11,6 @@ use Rattle.rules.specs.Program.{is_halt, no_statement}
 use Rattle.rules.specs.Format.{Bytes, Names}
 use Rattle.field.specs.Ticks.{tick}
 use Rattle.field.specs.Decoded.{statement_at, statement_of, action_of}
-use Rattle.field.specs.declared.decoding.Action.{Action}
 use Rattle.field.specs.declared.decoding.Action.TheVariants.{Halt}
 use Rattle.field.specs.declared.decoding.Statement.{Statement}
 use Rattle.reader.specs.Index.{no_entry}

@@ -4,7 +4,7 @@ use mathlib.Core.Path.{◌≡◌, refl, sym, ◌∙◌}
 use mathlib.Core.Bool.{Bool, true, false}
 use native.Mathlib.Omega.{arith}
 use lib.Dec.{ltb}
-use borrow.Author.Tests.{ltb-true}
+use borrow.Author.Tests.{ltb-true, ne_eqb}
 use Rattle.rules.specs.Refusal.{bad_expression}
 use Rattle.rules.specs.Interval.{Operator}
 use Rattle.rules.specs.Program.{Arith, operation, Condition, negation, conjunction}
@@ -30,6 +30,11 @@ not_register e f = let z : ◌≡◌ {A = ℕ} 0 1 = cc in omega arith
 
 pub not-operator : {k : F.ArithKind} {o : Operator} → k ≡ F.an_operator o → k ≡ F.unknown → ⊥
 not-operator e f = let z : ◌≡◌ {A = ℕ} 0 1 = cc in omega arith
+
+-- a code that is none of the six
+pub unknown-else : (k : ℕ) → (k ≡ 16 → ⊥) → (k ≡ 17 → ⊥) → (k ≡ 18 → ⊥) → (k ≡ 19 → ⊥) → (k ≡ 20 → ⊥) → (k ≡ 21 → ⊥) → F.unknown ≡ F.arith_kind k
+unfolding F.arith_kind
+unknown-else k a b c d e f = simp (ne_eqb k 16 a, ne_eqb k 17 b, ne_eqb k 18 c, ne_eqb k 19 d, ne_eqb k 20 e, ne_eqb k 21 f)
 
 -- two operands, one after the other
 abbrev pub operands : ℕ → Bytes → ℕ → ℕ → ℕ → Operator → Got Arith
@@ -80,6 +85,11 @@ not-conjunction e = let z : ◌≡◌ {A = ℕ} 0 1 = cc in omega arith
 
 pub not-comparison : (f : Arith → Arith → Condition) → F.comparison f ≡ F.unknown_condition → ⊥
 not-comparison f e = let z : ◌≡◌ {A = ℕ} 0 1 = cc in omega arith
+
+-- a code that is none of the six
+pub unknown_condition-else : (k : ℕ) → (k ≡ 32 → ⊥) → (k ≡ 33 → ⊥) → (k ≡ 34 → ⊥) → (k ≡ 35 → ⊥) → (k ≡ 36 → ⊥) → (k ≡ 37 → ⊥) → F.unknown_condition ≡ F.condition_kind k
+unfolding F.condition_kind
+unknown_condition-else k a b c d e f = simp (ne_eqb k 32 a, ne_eqb k 33 b, ne_eqb k 34 c, ne_eqb k 35 d, ne_eqb k 36 e, ne_eqb k 37 f)
 
 abbrev pub negation_at : ℕ → Bytes → ℕ → ℕ → ℕ → Got Condition
 negation_at d s e n p = and_then (read_condition d s e n p) (λ c q. got (negation c) q)

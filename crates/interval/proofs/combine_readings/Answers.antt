@@ -1,6 +1,5 @@
 -- What the search leaves of `interval::combine_readings`.
 use Rattle.rules.specs.Refusal.{on_both}
-use borrow.Author.Rules.{rules}
 use Rattle.interval.proofs.combine_readings.Goals as goal
 
 pub returns-in-Fault : goal.returns-in-Fault

@@ -1,7 +1,6 @@
 -- What the search leaves of `interval::cut_above`.
 use Rattle.rules.specs.Interval.{interval}
 use Rattle.rules.specs.Expression.{at_most}
-use borrow.Author.Rules.{rules}
 use Rattle.interval.proofs.cut_above.Goals as goal
 
 pub returns : goal.returns

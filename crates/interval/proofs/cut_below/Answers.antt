@@ -1,7 +1,6 @@
 -- What the search leaves of `interval::cut_below`.
 use Rattle.rules.specs.Interval.{interval}
 use Rattle.rules.specs.Expression.{at_least}
-use borrow.Author.Rules.{rules}
 use Rattle.interval.proofs.cut_below.Goals as goal
 
 pub returns : goal.returns

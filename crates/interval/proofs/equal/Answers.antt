@@ -1,7 +1,6 @@
 -- What the search leaves of `interval::equal`.
 use mathlib.Core.Path.{sym, ◌∙◌}
 use Rattle.rules.specs.Interval.{eq_z}
-use borrow.Author.Rules.{rules}
 use Rattle.interval.proofs.equal.Goals as goal
 
 pub returns-then-at_most : goal.returns-then-at_most

@@ -1,6 +1,5 @@
 -- What the search leaves of `interval::holds`.
 use mathlib.Core.Path.{sym, ◌∙◌}
-use borrow.Author.Rules.{rules}
 use Rattle.interval.specs.Bounds.{holds}
 use Rattle.interval.proofs.holds.Goals as goal
 

@@ -1,6 +1,5 @@
 -- What the search leaves of `interval::join`.
 use Rattle.rules.specs.Interval.{interval, join}
-use borrow.Author.Rules.{rules}
 use Rattle.interval.proofs.join.Goals as goal
 
 pub returns : goal.returns

@@ -1,6 +1,5 @@
 -- What the search leaves of `interval::meet`.
 use Rattle.rules.specs.Interval.{interval, meet}
-use borrow.Author.Rules.{rules}
 use Rattle.interval.proofs.meet.Goals as goal
 
 pub returns : goal.returns

@@ -3,7 +3,6 @@ use mathlib.Core.Path.{sym, ◌∙◌}
 use Rattle.rules.specs.Interval.{interval, within, fits}
 use Rattle.interval.proofs.Laws.{in-fits}
 use Rattle.rules.specs.Refusal.{value}
-use borrow.Author.Rules.{rules}
 use Rattle.interval.proofs.span_within.Goals as goal
 
 pub narrow-l-requires : goal.narrow-l-requires

@@ -25,7 +25,7 @@ use Rattle.field.proofs.Loops.{Turn, turn-wrong, turn-done, turn-full, turn-bad,
 use Rattle.reader.specs.Index.{StatementsRead, places_of}
 use Rattle.refusal.proofs.Laws.{refusal-of-rule}
 use Rattle.reader.proofs.closing.Codes.{map-any}
-use Rattle.reader.proofs.Filled.{table_more, same-sets}
+use Rattle.reader.proofs.Filled.{table_more}
 
 statement-at : (ns : Names) (s : Bytes) (at : ℕ) → If (λ x. x.place ≡ at) (read_statement ns s at)
 unfolding read_statement read_contents
@@ -57,9 +57,6 @@ unfolding read_statements
 statements-start ns s at base l = record { turn = record { items = []; count = refl; top = omega arith; rest = refl }; table = refl }
 
 module _ {ns : Names} {s : Bytes} {at base : ℕ} {l m : List ℕ} {n p : ℕ} (i : StatementsSoFar ns s at base l m n p) where
-  pub table-length : length m ≡ length l
-  table-length = same-sets l m base (places_of i.turn.items) i.table
-
   module _ {h : Next} (e : h ≡ next_of (statement_here n s p)) where
     pub statements-wrong : (r : Refusal) → h ≡ Wrong r → StatementsRead (read_statements ns s at) base l m (Failed r p)
     statements-wrong r f = read-failed base l m r (turn-wrong i.turn e f)

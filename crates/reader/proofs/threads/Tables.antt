@@ -1,10 +1,10 @@
 -- All threads, and the two tables of an index: the places of their statements and an entry for each.
 use mathlib.Core.Path.{◌≡◌, refl, sym, ap, subst, ◌∙◌}
-use mathlib.Core.List.{List, [], ◌∷◌, ◌++◌, map}
-use Prim.Native.Nat.{ℕ, suc, ◌+◌, ◌-◌, ◌*◌, ◌≤◌}
+use mathlib.Core.List.{List, [], ◌∷◌, ◌++◌}
+use Prim.Native.Nat.{ℕ, suc, ◌+◌, ◌*◌, ◌≤◌}
 use native.Mathlib.Omega.{arith}
 use lib.ListN.{length, set, replicate}
-use lib.Seq.{sets, length-sets}
+use lib.Seq.{sets}
 use borrow.Author.Tests.{eq-eqb, ne_eqb}
 use Rattle.rules.specs.Constants.{most_threads, most_statements}
 use Rattle.rules.specs.Program.{Thread}
@@ -59,12 +59,6 @@ lay-snoc t (y ∷ ys) x l =
     let k = sets l (t * most_statements) (places_of y.statements) in
     lay-snoc (suc t) ys x k ∙ ap (λ (i : ℕ). sets (lay_places (suc t) ys k) (i * most_statements) (places_of x.statements)) e
 
-pub lay-length : (t : ℕ) (xs : List Thread) (l : List ℕ) → length (lay_places t xs l) ≡ length l
-unfolding lay_places
-lay-length t [] l = refl
-lay-length t (y ∷ ys) l =
-    lay-length (suc t) ys (sets l (t * most_statements) (places_of y.statements)) ∙ length-sets l (t * most_statements) (places_of y.statements)
-
 -- ---- the loop
 
 -- n threads were read, up to p: the table l became m, and es are their entries
@@ -95,12 +89,6 @@ module _ {G : Got (List Thread)} (l m : List ℕ) (x : Threads) where
   read_found {p = p} e len f g h = subst (λ (u : Got (List Thread)). ThreadsRead u l m x) (sym e) (f ∙ ap (λ (n : ℕ). Found n p) (sym len), g, h)
 
 module _ {vars locks : ℕ} {s : Bytes} {at : ℕ} {l m : List ℕ} {es : List ThreadEntry} {n p : ℕ} (i : ThreadsSoFar vars locks s at l m es n p) where
-  pub places-length : length m ≡ length l
-  places-length = ap length i.places ∙ lay-length 0 i.turn.items l
-
-  pub entries-length : length es ≡ most_threads
-  entries-length = ap length i.entries ∙ length-sets (replicate most_threads no_entry) 0 (map entry_of i.turn.items)
-
   pub threads-done : p ≡ length s → ThreadsRead (read_threads vars locks s at) l m (record { end = Found n p; entries = es })
   threads-done f =
       read_found l m (record { end = Found n p; entries = es }) (turn-done i.turn refl (here-done s p f)) i.turn.count refl i.places i.entries

@@ -2,7 +2,6 @@
 use mathlib.Core.Path.{ap, ◌∙◌}
 use Rattle.rules.specs.Constants.{half32}
 use Rattle.rules.specs.Interval.{minus, combine, may_divide_by_zero, operate, within}
-use borrow.Author.Rules.{rules}
 use Rattle.interval.proofs.Hulls.{hull-at-ends}
 use Rattle.interval.proofs.addition.difference.Goals as goal
 

@@ -1,8 +1,6 @@
 -- What the search leaves of `interval::division::divide`.
 use mathlib.Core.Path.{sym, ap}
 use Rattle.rules.specs.Interval.{quotient}
-use mir.Syntax.{w32}
-use mir.Val.{of_z}
 use Rattle.interval.proofs.Laws.{zero_bits}
 use borrow.Author.Rules.{rules}
 use Rattle.interval.proofs.division.divide.Goals as goal

@@ -2,7 +2,7 @@
 use mathlib.Core.Path.{ap}
 use mathlib.Core.Bool.{not}
 use borrow.Author.Rules.{rules}
-use Rattle.interval.proofs.Rounding.{negation-fits, negation-is, magnitude-is}
+use Rattle.interval.proofs.Rounding.{negation-is, magnitude-is}
 use Rattle.interval.proofs.division.divide_nonzero.Goals as goal
 
 pub returns-then-a-b : goal.returns-then-a-b

@@ -1,6 +1,5 @@
 -- What the search leaves of `interval::division::holds_zero`.
 use Rattle.rules.specs.Interval.{holds_zero}
-use borrow.Author.Rules.{rules}
 use Rattle.interval.specs.Bounds.{holds}
 use Rattle.interval.proofs.division.holds_zero.Goals as goal
 

@@ -2,7 +2,6 @@
 use mathlib.Core.Path.{sym, ap, ◌∙◌}
 use Rattle.rules.specs.Constants.{half32}
 use Rattle.rules.specs.Interval.{divide, combine, may_divide_by_zero, operate, within}
-use borrow.Author.Rules.{rules}
 use Rattle.interval.proofs.Hulls.{hull-at-ends}
 use Rattle.interval.proofs.division.quotient.Goals as goal
 

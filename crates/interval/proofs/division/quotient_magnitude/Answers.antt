@@ -1,6 +1,6 @@
 -- What the search leaves of `interval::division::quotient_magnitude`.
 use borrow.Author.Rules.{rules}
-use Rattle.interval.proofs.Rounding.{one-small, held_small, divides, less-fits, raised-fits, divided-fits, whole-fits, divided-is-magnitude, whole-is-magnitude}
+use Rattle.interval.proofs.Rounding.{divided-is-magnitude, whole-is-magnitude}
 use Rattle.interval.proofs.division.quotient_magnitude.Goals as goal
 
 pub returns-then-a-b : goal.returns-then-a-b

@@ -1,6 +1,5 @@
 -- What the search leaves of `interval::multiplication::holds_ends`.
 use mathlib.Core.Path.{sym, ◌∙◌}
-use borrow.Author.Rules.{rules}
 use Rattle.interval.specs.Bounds.{holds_ends}
 use Rattle.interval.proofs.multiplication.holds_ends.Goals as goal
 

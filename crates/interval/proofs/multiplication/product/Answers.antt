@@ -9,7 +9,6 @@ use Rattle.rules.specs.Constants.{half32}
 use Rattle.rules.specs.Refusal.{value}
 use Rattle.rules.specs.Interval.{times, combine, may_divide_by_zero, operate, within}
 use Rattle.rules.proofs.Hull.{Corners, each-corner}
-use borrow.Author.Rules.{rules}
 use Rattle.interval.specs.Shape.{interval_of}
 use Rattle.interval.proofs.Hulls.{hull-at-ends}
 use Rattle.interval.proofs.Laws.{fits_in}
