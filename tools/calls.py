@@ -111,8 +111,8 @@ def copied(folder):
     shutil.copy(os.path.join(ROOT, "zumbeiry"), copy)
     for name in PARTS:
         shutil.copy(os.path.join(ROOT, "tools", f"{name}.py"), os.path.join(copy, "tools"))
-    crates = "label:\nlabel_main: label io # a comment\nshelf_main: io\nrecord_main: io\nretime_main: io\nmend_main: io\n"
-    crates += "text_main: io\nprint_main: io\n"
+    crates = "label:\nlabel_c staticlib: label\nlabel_main: label # a comment\nshelf_main:\nrecord_main:\nretime_main:\nmend_main:\n"
+    crates += "text_main:\nprint_main:\n"
     in_folder(copy, "crates.txt", crates.encode())
     in_folder(copy, os.path.join("crates", "label", "src", "lib.rt"), b"")
     return copy

@@ -2,6 +2,7 @@
 
 import contextlib
 import os
+import shutil
 import subprocess
 import tempfile
 import time
@@ -45,7 +46,7 @@ def crates_of(name):
         for line in lines:
             crate, colon, depends = line.split("#")[0].partition(":")
             if colon:
-                listed[crate.strip()] = depends.split()
+                listed[crate.split()[0]] = depends.split()
     if name not in listed:
         raise CannotRun(f"crates.txt does not list {name}")
     found = [name]
@@ -65,12 +66,18 @@ def newest(name):
 
 
 def prove(name):
-    """Has rt prove and build the program, and shows what it says of each crate."""
+    """Has rt prove and build the program, and shows what it says of each crate. It runs it too, on nothing."""
     try:
         rt = subprocess.Popen(
-            ["rt", "check", name], cwd=ROOT, stdin=subprocess.DEVNULL, stdout=subprocess.PIPE, stderr=subprocess.STDOUT
+            ["rt", "run"],
+            cwd=os.path.join(ROOT, "crates", name),
+            stdin=subprocess.DEVNULL,
+            stdout=subprocess.PIPE,
+            stderr=subprocess.STDOUT,
         )
-    except FileNotFoundError:
+    except FileNotFoundError as error:
+        if error.filename != "rt":
+            raise
         raise CannotRun(f"{name} has to be built, and there is no rt, the Rattle kit's command, in PATH") from None
     say(f"proving and building {name} with rt: some minutes the first time, then only after a change")
     with rt:
@@ -83,21 +90,27 @@ def prove(name):
 def program(name):
     """The path of the proved program of that name, built if need be."""
     path = os.path.join(ROOT, "target", "bin", name)
+    made = os.path.join(ROOT, "crates", name, "out", name)
     try:
         if os.path.exists(path) and os.stat(path).st_mtime >= newest(name):
             return path
         began = time.time()
         status = prove(name)
-        if os.path.exists(path):
-            # rt goes by contents and may leave the file as it was; a failure leaves it older than all
-            moment = began if status == 0 else 0
-            os.utime(path, (moment, moment))
+        if status == 0 and os.path.exists(made):
+            os.makedirs(os.path.dirname(path), exist_ok=True)
+            shutil.copy(made, f"{path}.new")
+            # as old as what it was proved from, whatever changed meanwhile
+            os.utime(f"{path}.new", (began, began))
+            os.replace(f"{path}.new", path)
+        elif os.path.exists(path):
+            # a failure leaves it older than all
+            os.utime(path, (0, 0))
     except OSError as error:
         raise CannotRun(f"{name} could not be built: {error.filename or 'rt'}: {reason(error)}") from None
     if status != 0:
-        raise CannotRun(f"{name} was not built: 'rt check {name}' ended with {status}; run it to see why")
-    if not os.path.exists(path):
-        raise CannotRun(f"rt check {name} wrote no target/bin/{name}; remove target/stamp/{name} and try again")
+        raise CannotRun(f"{name} was not built: 'rt run' in crates/{name} ended with {status}; run it there to see why")
+    if not os.path.exists(made):
+        raise CannotRun(f"rt run wrote no crates/{name}/out/{name}; remove crates/{name}/out and try again")
     return path
 
 

@@ -12,6 +12,9 @@ def try_all(folder, copy):
     os.makedirs(bins)
     source = os.path.join(copy, "crates", "label", "src", "lib.rt")
     built = os.path.join(copy, "target", "bin", "label_main")
+    out = os.path.join(copy, "crates", "label_main", "out")
+    os.makedirs(out)
+    made = os.path.join(out, "label_main")
     real = os.path.join(ROOT, "target", "bin", "label_main")
     path = bins + os.pathsep + os.environ["PATH"]
     rt = os.path.join(bins, "rt")
@@ -21,10 +24,10 @@ def try_all(folder, copy):
 
     cannot(call(path=folder), "there is no rt")
     stand_in(rt, "echo noise; echo 'rt: rules NOT PROVED'; exit 1\n")
-    call().gives(2, err=["proving and building label_main", "\nrt: rules NOT PROVED\n", "'rt check label_main' ended with 1"])
+    call().gives(2, err=["proving and building label_main", "\nrt: rules NOT PROVED\n", "'rt run' in crates/label_main ended with 1"])
     stand_in(rt, "exit 0\n")
-    call().gives(2, err=["wrote no target/bin/label_main"])
-    stand_in(rt, f"[ \"$*\" = 'check label_main' ] && echo 'rt: label proved (1 s)' && cp -p '{real}' '{built}'\n")
+    call().gives(2, err=["wrote no crates/label_main/out/label_main"])
+    stand_in(rt, f"[ \"$*\" = run ] && [ \"$PWD\" = '{os.path.dirname(out)}' ] && echo 'rt: label proved (1 s)' && cp -p '{real}' '{made}'\n")
     call().gives(0, "0 0 2 2 3\n", err=["zumbeiry: proving and building", "\nrt: label proved (1 s)\n"])
     expect("built once", call().gives(0, "0 0 2 2 3\n").err == "")
     os.utime(source)

@@ -1,9 +1,9 @@
 /*
- * The library's nine calls. `rt staticlib label` writes target/staticlib/liblabel.a, with zumbeiry_check, `rt staticlib shelf`
- * writes target/staticlib/libshelf.a, with zumbeiry_find, `rt staticlib record` target/staticlib/librecord.a, with zumbeiry_follow,
- * `rt staticlib retime` target/staticlib/libretime.a, with zumbeiry_change_times, zumbeiry_take_back and zumbeiry_preview,
- * `rt staticlib mend` target/staticlib/libmend.a, with zumbeiry_mend, `rt staticlib convert` target/staticlib/libconvert.a, with
- * zumbeiry_convert, and `rt staticlib print` target/staticlib/libprint.a, with zumbeiry_print (x86-64). A program links the archive of
+ * The library's nine calls. `tools/staticlib label` writes target/staticlib/liblabel.a, with zumbeiry_check, `tools/staticlib shelf`
+ * writes target/staticlib/libshelf.a, with zumbeiry_find, `tools/staticlib record` target/staticlib/librecord.a, with zumbeiry_follow,
+ * `tools/staticlib retime` target/staticlib/libretime.a, with zumbeiry_change_times, zumbeiry_take_back and zumbeiry_preview,
+ * `tools/staticlib mend` target/staticlib/libmend.a, with zumbeiry_mend, `tools/staticlib convert` target/staticlib/libconvert.a, with
+ * zumbeiry_convert, and `tools/staticlib print` target/staticlib/libprint.a, with zumbeiry_print (x86-64). A program links the archive of
  * the call that it makes.
  */
 #ifndef ZUMBEIRY_H

@@ -24,7 +24,7 @@ pub(crate) fn take_event(
     y.check
 }
 
-// One state, lent to one event: so that the loop over events, which keeps it by value, need not be proved by hand.
+// One state, lent to one event, beside the loop over events, which keeps it by value.
 pub(crate) fn with_event(
     x: Replay,
     sheet: &[u8],
