@@ -1,4 +1,5 @@
 -- A field that is written into what is left of a buffer from a place on.
+use Rattle.std.specs.Prelude.{if◌then◌else◌}
 use mathlib.Core.Path.{◌≡◌, refl, sym, ap, ◌∙◌}
 use mathlib.Core.Bool.{Bool, true, false}
 use mathlib.Core.List.{[], ◌++◌, append-nil}
@@ -9,7 +10,6 @@ use lib.ListN.{length, take, drop, length-append, length-drop, drop_of_length-le
 use lib.Seq.{sets, sets-eq, length-take-le, take_at, drop_at, take-take}
 use borrow.Author.Tests.{leb-true, leb-false, le-ltb}
 use borrow.Rule.Slice.PartMut.{put_mid}
-use Rattle.rules.specs.Base.{if◌then◌else◌}
 use Rattle.rules.specs.Format.{Bytes}
 use Rattle.text.specs.Words.{Read}
 use Rattle.text.specs.Lines.{Line, Due, statement_due, due_after, may_end}

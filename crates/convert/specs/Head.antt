@@ -1,6 +1,5 @@
 -- What the code reads and writes of the lines `limit`, `budget` and `label`.
-use Rattle.std.specs.Prelude.{◌≡◌, Bool, ◌&&◌, List, [], ◌∷◌, ◌++◌, ℕ, length, drop}
-use Rattle.rules.specs.Base.{if◌then◌else◌}
+use Rattle.std.specs.Prelude.{◌≡◌, Bool, ◌&&◌, List, [], ◌∷◌, ◌++◌, ℕ, length, drop, if◌then◌else◌}
 use Rattle.rules.specs.Constants.{greatest_limit, greatest_budget}
 use Rattle.rules.specs.Format.{Bytes}
 use Rattle.rules.specs.Program.{Header}

@@ -1,6 +1,6 @@
 -- What the code gives back of a text, in terms of the definition.
-use Rattle.std.specs.Prelude.{◌≡◌, List, [], ℕ, ◌≤◌, length, take, replicate}
-use Rattle.rules.specs.Base.{if◌then◌else◌, at_front}
+use Rattle.std.specs.Prelude.{◌≡◌, List, [], ℕ, ◌≤◌, length, take, replicate, if◌then◌else◌}
+use Rattle.rules.specs.Base.{at_front}
 use Rattle.rules.specs.Format.{Bytes, read_sheet}
 use Rattle.text.specs.Words.{took}
 use Rattle.text.specs.Lines.{Text, read_text}

@@ -1,6 +1,5 @@
 -- What the code has written of a text so far, and what it makes of the whole.
-use Rattle.std.specs.Prelude.{◌≡◌, Bool, List, [], ◌∷◌, ℕ, ◌+◌, ◌≤◌, min, T, ltb, length, take, drop}
-use Rattle.rules.specs.Base.{if◌then◌else◌}
+use Rattle.std.specs.Prelude.{◌≡◌, Bool, List, [], ◌∷◌, ℕ, ◌+◌, ◌≤◌, min, T, ltb, length, take, drop, if◌then◌else◌}
 use Rattle.rules.specs.Format.{Bytes}
 use Rattle.rules.specs.Encoding.{in_row}
 use Rattle.text.specs.Words.{Read, stop, took}

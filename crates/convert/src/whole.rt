@@ -1,8 +1,7 @@
 // The lines of a text one after another, each with its field written behind the last. A field at a target is looked for on the way: the
 // start of its line and whether its numbers fit.
-ghost use Rattle.std.specs.Prelude.{◌≡◌, [], ◌∷◌, ◌++◌, ◌≤◌, ◌<◌, min, length, drop};
+ghost use Rattle.std.specs.Prelude.{◌≡◌, [], ◌∷◌, ◌++◌, ◌≤◌, ◌<◌, min, length, drop, if◌then◌else◌};
 ghost use Rattle.std.proofs.lemmas.List.Edits.{sets};
-ghost use Rattle.rules.specs.Base.{if◌then◌else◌};
 ghost use Rattle.text.specs.Lines.{locks_due, read_line, read_lines, may_end};
 ghost use Rattle.text.specs.Convert.{Piece};
 ghost use Rattle.lines.specs.Writing.{due_of, OnwardField};

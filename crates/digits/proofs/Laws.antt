@@ -1,4 +1,5 @@
 -- Numbers in digits: each is written by its own decimal, a cut goes through the digits behind it, and a loop stands at a digit.
+use Rattle.std.specs.Prelude.{if◌then◌else◌}
 use mathlib.Core.Path.{◌≡◌, refl, sym, ap, subst, ◌∙◌}
 use mathlib.Core.Bool.{Bool, true, false, ◌&&◌}
 use mathlib.Core.List.{[], ◌∷◌, ◌++◌}
@@ -10,7 +11,7 @@ use lib.Dec.{leb}
 use lib.ListN.{length, drop, get_or, drop_of_length-le, length-append}
 use lib.Seq.{drop-cons}
 use borrow.Author.Tests.{le-leb, lt-leb, lt-ltb, le-ltb}
-use Rattle.rules.specs.Base.{if◌then◌else◌, all}
+use Rattle.rules.specs.Base.{all}
 use Rattle.rules.specs.Format.{Bytes}
 use Rattle.rules.specs.Product.{decimal_in, decimal}
 use Rattle.digits.specs.declared.Number.TheVariants.{Is, Wrong}

@@ -1,6 +1,6 @@
 -- Numbers in decimal digits, as a word writes them.
-use Rattle.std.specs.Prelude.{◌≡◌, Bool, ◌&&◌, [], ◌∷◌, ℕ, ◌+◌, ◌-◌, ◌*◌, leb}
-use Rattle.rules.specs.Base.{if◌then◌else◌, all}
+use Rattle.std.specs.Prelude.{◌≡◌, Bool, ◌&&◌, [], ◌∷◌, ℕ, ◌+◌, ◌-◌, ◌*◌, leb, if◌then◌else◌}
+use Rattle.rules.specs.Base.{all}
 use Rattle.rules.specs.Format.{Bytes}
 use Rattle.rules.specs.Product.{decimal}
 use Rattle.digits.specs.declared.Number.{Number}

@@ -1,4 +1,5 @@
 -- The event of a thread: its owners, the state that it makes, and what the rules' effect is there. Assumes nothing.
+use Rattle.std.specs.Prelude.{if◌then◌else◌}
 use mathlib.Core.Path.{◌≡◌, refl, sym, ap, subst, ◌∙◌}
 use mathlib.Core.Bool.{true, false}
 use mathlib.Core.Option.{Option, none}
@@ -9,7 +10,6 @@ use lib.ListN.{get_or, set}
 use lib.Seq.{set-get_or}
 use lib.IntN.{ℤ}
 use borrow.Author.Tests.{eq-eqb, ne_eqb}
-use Rattle.rules.specs.Base.{if◌then◌else◌}
 use Rattle.rules.specs.Refusal.{value, fault}
 use Rattle.rules.specs.Program as P
 use Rattle.rules.specs.Lock.{may_take, after_unlock, after_lock}

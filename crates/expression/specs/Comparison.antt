@@ -1,7 +1,6 @@
 -- What narrowing by a comparison gives.
-use Rattle.std.specs.Prelude.{Bool, true, false, ℕ, ◌+◌, ltb, leb, pos}
+use Rattle.std.specs.Prelude.{Bool, true, false, ℕ, ◌+◌, ltb, leb, pos, if◌then◌else◌}
 use Rattle.std.proofs.Math.Option.{Option, none, some}
-use Rattle.rules.specs.Base.{if◌then◌else◌}
 use Rattle.rules.specs.Interval.{Interval, meet}
 use Rattle.rules.specs.Program.{Arith, constant, register}
 use Rattle.rules.specs.Expression.{Regs, at_most, at_least, equal_yes, equal_no, less_yes, less_no}

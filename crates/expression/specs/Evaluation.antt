@@ -1,6 +1,5 @@
 -- What evaluation gives, from the rules' evaluation of the tree that the same bytes read as.
-use Rattle.std.specs.Prelude.{Bool, List, map, ℕ, take}
-use Rattle.rules.specs.Base.{if◌then◌else◌}
+use Rattle.std.specs.Prelude.{Bool, List, map, ℕ, take, if◌then◌else◌}
 use Rattle.rules.specs.Refusal.{Result}
 use Rattle.rules.specs.Interval.{Interval}
 use Rattle.rules.specs.Program.{Arith}

@@ -1,6 +1,5 @@
 -- A statement as the code decodes it at a place: from the bytes, and from the statement of the program.
-use Rattle.std.specs.Prelude.{Bool, true, false, ℕ, ◌+◌, eqb}
-use Rattle.rules.specs.Base.{if◌then◌else◌}
+use Rattle.std.specs.Prelude.{Bool, true, false, ℕ, ◌+◌, eqb, if◌then◌else◌}
 use Rattle.rules.specs.Program as R
 use Rattle.rules.specs.Format.{Bytes, byte, num16}
 use Rattle.field.specs.Ticks.{tick}

@@ -1,6 +1,5 @@
 -- The head of a field, as the code has it.
-use Rattle.std.specs.Prelude.{true, false, ℕ, ◌+◌}
-use Rattle.rules.specs.Base.{if◌then◌else◌}
+use Rattle.std.specs.Prelude.{true, false, ℕ, ◌+◌, if◌then◌else◌}
 use Rattle.rules.specs.Format.{Bytes, byte, num16, has_head}
 use Rattle.field.specs.declared.heads.Field.{Field}
 

@@ -1,6 +1,5 @@
 -- What the code keeps of a reading: the place behind it or the refusal, not the tree. The readings are those of `rules`.
-use Rattle.std.specs.Prelude.{ℕ, eqb, List, length}
-use Rattle.rules.specs.Base.{if◌then◌else◌}
+use Rattle.std.specs.Prelude.{ℕ, eqb, List, length, if◌then◌else◌}
 use Rattle.rules.specs.Format as rules
 use Rattle.rules.specs.Format.{Got, bad, got, Here, wrong, more, done}
 use Rattle.refusal.specs.declared.Refusal.TheVariants.{BadExpression}

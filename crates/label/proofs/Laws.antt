@@ -1,9 +1,9 @@
 -- The answer by the label, and the answer to the search of a sheet.
+use Rattle.std.specs.Prelude.{if◌then◌else◌}
 use mathlib.Core.Path.{◌≡◌, refl, sym, ap, subst, ◌∙◌}
 use mathlib.Core.Bool.{Bool, true, false, ◌&&◌}
 use Prim.Native.Nat.{ℕ, ◌/◌}
 use lib.Dec.{leb, eqb}
-use Rattle.rules.specs.Base.{if◌then◌else◌}
 use Rattle.rules.specs.Constants.{numbers_per_state}
 use Rattle.rules.specs.Refusal as R
 use Rattle.rules.specs.Refusal.{number, label_broken}

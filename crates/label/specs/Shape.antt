@@ -1,6 +1,6 @@
 -- The code's answer as the rules' five numbers.
-use Rattle.std.specs.Prelude.{◌≡◌, ◌&&◌, List, [], ◌∷◌, ℕ, leb, ℤ, length}
-use Rattle.rules.specs.Base.{if◌then◌else◌, at_front}
+use Rattle.std.specs.Prelude.{◌≡◌, ◌&&◌, List, [], ◌∷◌, ℕ, leb, ℤ, length, if◌then◌else◌}
+use Rattle.rules.specs.Base.{at_front}
 use Rattle.rules.specs.Refusal.{number, label_broken}
 use Rattle.rules.specs.Format.{Bytes}
 use Rattle.rules.specs.Search as S

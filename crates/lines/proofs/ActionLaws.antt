@@ -1,4 +1,5 @@
 -- What a statement does: three readings one behind the other, numbers that fit a byte, and bytes put before others.
+use Rattle.std.specs.Prelude.{if◌then◌else◌}
 use mathlib.Core.Path.{◌≡◌, refl, ap, subst, ◌∙◌}
 use mathlib.Core.Bool.{Bool, true, false, ◌&&◌}
 use mathlib.Core.List.{[], ◌∷◌, ◌++◌}
@@ -7,7 +8,6 @@ use native.Mathlib.Omega.{arith}
 use lib.Dec.{T, ltb}
 use lib.ListN.{length, set, length-append}
 use lib.Seq.{sets, set_comm}
-use Rattle.rules.specs.Base.{if◌then◌else◌}
 use Rattle.rules.specs.Format.{Bytes}
 use Rattle.rules.proofs.Base.{and_left, and_right}
 use Rattle.text.specs.Words.{Read, stop, took, then_read, map_read}

@@ -1,4 +1,5 @@
 -- The front of a statement's field: where the code puts it, and where it does not.
+use Rattle.std.specs.Prelude.{if◌then◌else◌}
 use mathlib.Core.Path.{◌≡◌, refl, sym, ap, subst, ◌∙◌}
 use mathlib.Core.Bool.{Bool, true, false, ◌&&◌}
 use Prim.Native.Nat.{ℕ, ◌+◌, ◌-◌, ◌≤◌, ◌<◌}
@@ -6,10 +7,8 @@ use borrow.Author.Tests.{lt-ltb, le-ltb}
 use lib.Dec.{T, ltb, ltb→lt}
 use lib.ListN.{length}
 use lib.Seq.{sets}
-use Rattle.rules.specs.Base.{if◌then◌else◌}
 use Rattle.rules.specs.Format.{Bytes}
 use Rattle.rules.proofs.Base.{and_left, and_right}
-use Rattle.scan.specs.declared.step.Step.TheVariants.{Took, Stop}
 use Rattle.lines.specs.Writing.{front_bytes, put_timed}
 use Rattle.lines.specs.declared.ranges.Pair.{Pair}
 use Rattle.lines.specs.declared.ranges.Pair.TheVariants as pairs

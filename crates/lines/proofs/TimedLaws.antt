@@ -1,4 +1,5 @@
 -- Statements with their times: what they read, and what they write of their field.
+use Rattle.std.specs.Prelude.{if◌then◌else◌}
 use mathlib.Core.Path.{◌≡◌, refl, sym, ap, subst, ◌∙◌}
 use mathlib.Core.Bool.{Bool, false, ◌&&◌}
 use mathlib.Core.List.{◌++◌}
@@ -8,7 +9,6 @@ use borrow.Author.Tests.{le-ltb}
 use lib.Dec.{T, ltb}
 use lib.ListN.{length, drop, length-append}
 use lib.Seq.{sets}
-use Rattle.rules.specs.Base.{if◌then◌else◌}
 use Rattle.rules.specs.Format.{Bytes}
 use Rattle.rules.specs.Program.{Action}
 use Rattle.rules.specs.Encoding.{field, code_of, encode_operands, encode_body}

@@ -1,6 +1,5 @@
 -- What the code reads of a line, as the rules' own reading of the bytes that are left.
-use Rattle.std.specs.Prelude.{Bool, ℕ, ◌≤◌, length, drop}
-use Rattle.rules.specs.Base.{if◌then◌else◌}
+use Rattle.std.specs.Prelude.{Bool, ℕ, drop, if◌then◌else◌}
 use Rattle.rules.specs.Format.{Bytes}
 use Rattle.text.specs.Words.{Read, stop, took, map_read, number, signed}
 use Rattle.scan.specs.Reading.{Onward, place_of, capped, value_code}

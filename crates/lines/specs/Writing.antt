@@ -1,14 +1,12 @@
 -- What the code reads and writes of a line: the rules' own reading, and the bytes of what was read.
-use Rattle.std.specs.Prelude.{◌≡◌, Bool, true, false, ◌&&◌, List, [], ◌∷◌, ◌++◌, ℕ, ◌+◌, ◌-◌, ◌≤◌, eqb, ltb, length, drop}
+use Rattle.std.specs.Prelude.{◌≡◌, Bool, true, false, ◌&&◌, [], ◌∷◌, ◌++◌, ℕ, ◌+◌, ◌-◌, ◌≤◌, eqb, ltb, length, drop, if◌then◌else◌}
 use Rattle.std.proofs.lemmas.List.Edits.{sets}
-use Rattle.rules.specs.Base.{if◌then◌else◌}
 use Rattle.rules.specs.Format.{Bytes}
-use Rattle.rules.specs.Interval.{Interval, interval}
+use Rattle.rules.specs.Interval.{Interval}
 use Rattle.rules.specs.Program.{Action, skip, store, load, unlock, lock}
 use Rattle.rules.specs.Encoding.{two, four, field, code_of, encode_operands}
 use Rattle.text.specs.Words.{bytes, Read, stop, took, then_read, map_read, name, keyword}
-use Rattle.text.specs.Lines.{Line, word_only, jump, transfer, actions, range, Due, locks_due, var_due, reg_due, statement_due, due_after}
-use Rattle.text.specs.Words as Words
+use Rattle.text.specs.Lines.{Line, word_only, jump, transfer, actions, Due, locks_due, var_due, reg_due, statement_due, due_after}
 use Rattle.text.specs.Convert.{action_fits, line_fits, fits_byte, field_of}
 use Rattle.scan.specs.Reading.{Onward}
 use Rattle.scan.specs.Writing.{Wrote}

@@ -1,7 +1,6 @@
 // Bytes of fields. What has no room is not written.
-ghost use Rattle.std.specs.Prelude.{◌≡◌, [], ◌∷◌, ◌≤◌, ◌<◌, ltb, set};
+ghost use Rattle.std.specs.Prelude.{◌≡◌, [], ◌∷◌, ◌≤◌, ◌<◌, ltb, set, if◌then◌else◌};
 ghost use Rattle.std.proofs.lemmas.List.Edits.{sets};
-ghost use Rattle.rules.specs.Base.{if◌then◌else◌};
 ghost use Rattle.rules.specs.Encoding.{two};
 ghost use Rattle.lines.specs.Reading.{number_in};
 ghost use Rattle.lines.specs.Writing.{range_bytes, field_of_one, front_bytes, put_pair};

@@ -1,2 +1,2 @@
 -- What the walk leaves in both buffers, and what the call makes of it.
-pub mod Mending
+pub mod Outcome

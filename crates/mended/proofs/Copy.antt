@@ -1,5 +1,6 @@
 -- "A sheet that reads well is copied with no changes listed.": each field that the reader reads is one that the walk copies, and
 -- a thread that the reader closes has its halt.
+use Rattle.std.specs.Prelude.{if◌then◌else◌}
 use mathlib.Core.Path.{◌≡◌, refl, sym, subst}
 use mathlib.Core.Bool.{Bool, true, false, ◌&&◌, ◌||◌, not}
 use mathlib.Core.Option.{Option, none}
@@ -8,7 +9,7 @@ use Prim.Native.Nat.{ℕ, zero, suc, ◌+◌, ◌≤◌, ◌<◌}
 use native.Mathlib.Omega.{arith}
 use lib.Dec.{T, leb, ltb, eqb, leb→le, eqb→eq}
 use lib.ListN.{length}
-use Rattle.rules.specs.Base.{if◌then◌else◌, Each, nil, ◌&◌}
+use Rattle.rules.specs.Base.{Each, nil, ◌&◌}
 use Rattle.rules.specs.Refusal.{short, bad_length, off_range, no_such_name, no_halt, too_long}
 use Rattle.rules.specs.Constants.{longest_sheet, deepest, most_registers, most_statements, most_threads}
 use Rattle.rules.specs.Program.{Arith, Condition, Action, is_halt, Statement, Thread, Program}

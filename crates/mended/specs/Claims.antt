@@ -1,7 +1,7 @@
 -- What is claimed of mending (02, ticket 13) beside what the call promises of one sheet.
-use Rattle.std.specs.Prelude.{◌≡◌, List, [], ◌∷◌, ◌++◌, ℕ, ◌+◌, ◌*◌, ◌≤◌, ◌<◌, leb, length, take, drop}
+use Rattle.std.specs.Prelude.{◌≡◌, List, [], ◌∷◌, ◌++◌, ℕ, ◌+◌, ◌*◌, ◌≤◌, ◌<◌, leb, length, take, drop, if◌then◌else◌}
 use Rattle.std.proofs.Math.Seq.{slice}
-use Rattle.rules.specs.Base.{if◌then◌else◌, Each}
+use Rattle.rules.specs.Base.{Each}
 use Rattle.rules.specs.Refusal.{Refusal, too_long, output_full}
 use Rattle.rules.specs.Constants.{longest_sheet}
 use Rattle.rules.specs.Program.{Program}

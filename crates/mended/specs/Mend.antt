@@ -1,11 +1,10 @@
 -- Mend what the card writer garbles (02, ticket 13): ends that stand the wrong way round are exchanged, and a thread that closes on
 -- another statement gets its halt. The changes are made field by field, wherever a field can be told; whether it is the one that is
 -- due is the reader's affair, which then reads the mended sheet, its places counted back to the original.
-use Rattle.std.specs.Prelude.{Bool, true, false, ◌&&◌, ◌||◌, not, List, [], ◌∷◌, ◌++◌, ℕ, zero, suc, ◌+◌, ◌-◌, leb, ltb, eqb, length, drop, replicate}
+use Rattle.std.specs.Prelude.{Bool, true, false, ◌&&◌, ◌||◌, not, List, [], ◌∷◌, ◌++◌, ℕ, zero, suc, ◌+◌, ◌-◌, leb, ltb, eqb, length, drop, replicate, if◌then◌else◌}
 use Rattle.std.proofs.Math.Option.{Option, none, some}
 use Rattle.std.specs.Int.Signed.{lt_z}
 use Rattle.std.proofs.Math.Seq.{slice}
-use Rattle.rules.specs.Base.{if◌then◌else◌}
 use Rattle.rules.specs.Refusal.{Refusal, number, too_long, output_full}
 use Rattle.rules.specs.Constants.{longest_sheet}
 use Rattle.rules.specs.Format.{Bytes, Got, bad, got, and_then, need, byte, num16, num32, int32, has_head, has_body, read_fields}

@@ -1,4 +1,5 @@
 -- Constants and registers, read and written.
+use Rattle.std.specs.Prelude.{if◌then◌else◌}
 use mathlib.Core.Path.{◌≡◌, refl, sym, ap, ◌∙◌}
 use mathlib.Core.Bool.{Bool, true, false}
 use mathlib.Core.List.{◌∷◌}
@@ -8,7 +9,6 @@ use borrow.Author.Tests.{ne_eqb, lt-ltb, le-ltb, ltb-true}
 use lib.IntN.{ℤ, pos, negsuc}
 use lib.ListN.{length, drop, get_or, set}
 use lib.Seq.{sets}
-use Rattle.rules.specs.Base.{if◌then◌else◌}
 use Rattle.rules.specs.Format.{Bytes}
 use Rattle.rules.specs.Constants.{half32}
 use Rattle.rules.specs.Encoding.{four, unsigned, encode_arith}

@@ -1,6 +1,5 @@
 -- How each kind of expression is written, the rules' readers by depth and level, and what a reader owes that goes on from something read.
-use Rattle.std.specs.Prelude.{Bool, true, false, List, ℕ, zero, suc, ◌≤◌, eqb, length, drop}
-use Rattle.rules.specs.Base.{if◌then◌else◌}
+use Rattle.std.specs.Prelude.{Bool, true, false, List, ℕ, zero, suc, ◌≤◌, eqb, length, drop, if◌then◌else◌}
 use Rattle.rules.specs.Format.{Bytes}
 use Rattle.rules.specs.Interval.{Operator, plus, minus, times, divide}
 use Rattle.rules.specs.Program.{Arith, operation, Condition, conjunction, equal, less}

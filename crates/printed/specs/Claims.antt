@@ -1,6 +1,6 @@
 -- What is claimed of printing a sheet (02, ticket 4) beside what the call promises of one sheet.
-use Rattle.std.specs.Prelude.{◌≡◌, [], ◌∷◌, ◌++◌, ℕ, suc, ◌*◌, ◌≤◌, ◌<◌, eqb, length, take}
-use Rattle.rules.specs.Base.{if◌then◌else◌, Each}
+use Rattle.std.specs.Prelude.{◌≡◌, [], ◌∷◌, ◌++◌, ℕ, suc, ◌*◌, ◌≤◌, ◌<◌, eqb, length, take, if◌then◌else◌}
+use Rattle.rules.specs.Base.{Each}
 use Rattle.rules.specs.Refusal.{Refusal, number, output_full}
 use Rattle.rules.specs.Program.{Program}
 use Rattle.rules.specs.Format.{Bytes, AreBytes, bad, got, read_sheet}

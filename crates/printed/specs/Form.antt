@@ -1,8 +1,7 @@
 -- The form of a printed text, said of its bytes one by one (02, ticket 4): "single spaces (none after `!`, `(` or a constant's minus, before
 -- `)` or round `..`), no leading zeros, a newline after each line, no blank lines".
-use Rattle.std.specs.Prelude.{◌≡◌, Bool, true, false, ◌||◌, [], ◌∷◌, ℕ, eqb}
+use Rattle.std.specs.Prelude.{◌≡◌, Bool, true, false, ◌||◌, [], ◌∷◌, ℕ, eqb, if◌then◌else◌}
 use Rattle.std.proofs.Math.Option.{Option, none, some}
-use Rattle.rules.specs.Base.{if◌then◌else◌}
 use Rattle.rules.specs.Format.{Bytes}
 use Rattle.text.specs.Words.{is_digit}
 

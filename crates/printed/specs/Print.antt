@@ -1,8 +1,7 @@
 -- The printed form of a sheet (02, ticket 4): "Write the text of ticket 2 from any sheet that reads well: single spaces (none after
 -- `!`, `(` or a constant's minus, before `)` or round `..`), no leading zeros, a newline after each line, no blank lines, parentheses
 -- only where the tree would otherwise change."
-use Rattle.std.specs.Prelude.{Bool, true, false, [], ◌∷◌, ◌++◌, ℕ, suc, ◌-◌, leb, ltb, ℤ, pos, negsuc, length, replicate}
-use Rattle.rules.specs.Base.{if◌then◌else◌}
+use Rattle.std.specs.Prelude.{Bool, true, false, [], ◌∷◌, ◌++◌, ℕ, suc, ◌-◌, leb, ltb, ℤ, pos, negsuc, length, replicate, if◌then◌else◌}
 use Rattle.rules.specs.Refusal.{Refusal, number, output_full}
 use Rattle.rules.specs.Interval.{Interval, Operator, plus, minus, times, divide}
 use Rattle.rules.specs.Program.{Arith, constant, register, operation, Condition, always, never, negation, conjunction, equal, less}

@@ -1,6 +1,7 @@
 -- What holds of a sheet that reads and of its index: `accepted`, `rejected`, `program-facts`, `index-facts`, the facts of a
 -- thread and of a statement by number, and what `statement_at` asks of a place of the index. No code in it: later layers
 -- cite these from the promise of `read_sheet`.
+use Rattle.std.specs.Prelude.{if◌then◌else◌}
 use mathlib.Core.Path.{◌≡◌, refl, sym, ap, subst, ◌∙◌}
 use mathlib.Core.Bool.{Bool, true, false, not}
 use mathlib.Core.List.{List, [], ◌∷◌, ◌++◌}
@@ -9,7 +10,7 @@ use native.Mathlib.Omega.{arith}
 use lib.Dec.{leb, ltb, eqb, leb→le}
 use lib.ListN.{length, get_or, length-append}
 use borrow.Author.Tests.{leb-true, eqb-true, ltb-true, ltb-false}
-use Rattle.rules.specs.Base.{if◌then◌else◌, Each, nil}
+use Rattle.rules.specs.Base.{Each, nil}
 use Rattle.rules.specs.Constants.{longest_sheet, most_locks, most_threads, most_statements}
 use Rattle.rules.specs.Refusal as R
 use Rattle.rules.specs.Refusal.{number, short, out_of_turn, too_long}

@@ -1,4 +1,5 @@
 -- What holds of ranges and of a thread that was read.
+use Rattle.std.specs.Prelude.{if◌then◌else◌}
 use mathlib.Core.Path.{◌≡◌, refl, sym, ap, subst, ◌∙◌}
 use mathlib.Core.Bool.{Bool, true, false, not}
 use mathlib.Core.List.{List, [], ◌∷◌, ◌++◌}
@@ -7,7 +8,7 @@ use native.Mathlib.Omega.{arith}
 use lib.Dec.{leb, eqb}
 use lib.ListN.{length, get_or, length-append}
 use borrow.Author.Tests.{ltb-true}
-use Rattle.rules.specs.Base.{if◌then◌else◌, Each, nil, ◌&◌}
+use Rattle.rules.specs.Base.{Each, nil, ◌&◌}
 use Rattle.rules.specs.Constants.{most_variables, most_registers, most_statements}
 use Rattle.rules.specs.Refusal as R
 use Rattle.rules.specs.Refusal.{short, out_of_turn, no_such_name, no_halt}

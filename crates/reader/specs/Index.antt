@@ -1,7 +1,6 @@
 -- The index of a sheet: what the code gives of a program, and the tables it is made from.
-use Rattle.std.specs.Prelude.{◌≡◌, Bool, true, List, [], ◌∷◌, map, ℕ, suc, ◌+◌, ◌*◌, ◌≤◌, leb, eqb, ltb, length, replicate}
+use Rattle.std.specs.Prelude.{◌≡◌, Bool, true, List, [], ◌∷◌, map, ℕ, suc, ◌+◌, ◌*◌, ◌≤◌, leb, eqb, ltb, length, replicate, if◌then◌else◌}
 use Rattle.std.proofs.lemmas.List.Edits.{sets}
-use Rattle.rules.specs.Base.{if◌then◌else◌}
 use Rattle.rules.specs.Constants.{most_threads, most_statements}
 use Rattle.rules.specs.Refusal.{Refusal, number, too_long}
 use Rattle.rules.specs.Program.{Statement, Thread, Program}

@@ -4,9 +4,7 @@ use Rattle.rules.specs.Refusal.{Result, value, fault}
 use Rattle.refusal.specs.Shape.{rule_of}
 use Rattle.interval.specs.declared.Val.{Val}
 use Rattle.record.specs.declared.known.Value.{Value}
-use Rattle.record.specs.declared.known.Value.TheVariants as Value
 use Rattle.record.specs.declared.known.Truth.{Truth}
-use Rattle.record.specs.declared.known.Truth.TheVariants as Truth
 
 abbrev pub number_of : Val → ℤ
 number_of v = v.0

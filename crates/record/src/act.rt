@@ -1,6 +1,5 @@
 // What the statement of an event does to the replay state.
-ghost use Rattle.std.specs.Prelude.{◌≡◌, suc, ◌<◌, ◌≤◌, false, length, slice_set};
-ghost use Rattle.rules.specs.Base.{if◌then◌else◌};
+ghost use Rattle.std.specs.Prelude.{◌≡◌, suc, ◌<◌, ◌≤◌, false, length, slice_set, if◌then◌else◌};
 ghost use Rattle.rules.specs.Constants.{deepest, most_threads, most_statements, most_registers, most_variables, most_locks};
 ghost use Rattle.rules.specs.Program as P;
 ghost use Rattle.rules.specs.Program.{is_halt, Statement};

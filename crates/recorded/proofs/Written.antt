@@ -1,4 +1,5 @@
 -- What the recorder writes is read back: a run's starting values, and each event with its own full tick.
+use Rattle.std.specs.Prelude.{if◌then◌else◌}
 use mathlib.Core.Path.{◌≡◌, sym, ap, ◌∙◌, subst}
 use mathlib.Core.Bool.{true}
 use mathlib.Core.Option.{none}
@@ -10,7 +11,7 @@ use lib.IntN.{ℤ}
 use lib.Signed.{le_z}
 use lib.ListN.{length, drop, length-drop, replicate}
 use borrow.Author.Tests.{lt-ltb}
-use Rattle.rules.specs.Base.{Each, nil, ◌&◌, if◌then◌else◌}
+use Rattle.rules.specs.Base.{Each, nil, ◌&◌}
 use Rattle.rules.specs.Refusal.{no_such_name, Result, fault}
 use Rattle.rules.specs.Interval.{Interval, ◌∈◌}
 use Rattle.rules.specs.Program.{Thread, Program}

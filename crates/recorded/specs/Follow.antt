@@ -1,8 +1,7 @@
 -- Follow what the machine recorded (02, ticket 9): a record has starting values, then a field for each event. It is followed field by
 -- field with the rule for runs, and each event's full tick is recovered from the recorder's clock of sixteen bits.
-use Rattle.std.specs.Prelude.{Bool, true, false, List, [], ◌∷◌, ◌++◌, ℕ, zero, suc, ◌+◌, ◌-◌, ◌%◌, leb, ltb, ℤ, length, replicate}
+use Rattle.std.specs.Prelude.{Bool, true, false, List, [], ◌∷◌, ◌++◌, ℕ, zero, suc, ◌+◌, ◌-◌, ◌%◌, leb, ltb, ℤ, length, replicate, if◌then◌else◌}
 use Rattle.std.proofs.Math.Option.{none}
-use Rattle.rules.specs.Base.{if◌then◌else◌}
 use Rattle.rules.specs.Refusal.{Refusal, number, no_such_name, too_long, not_run, Result, value, fault}
 use Rattle.rules.specs.Interval.{Interval}
 use Rattle.rules.specs.Program.{Thread, Program}

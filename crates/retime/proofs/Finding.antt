@@ -1,4 +1,5 @@
 -- A statement found by its thread and its number is the program's statement, or there is none.
+use Rattle.std.specs.Prelude.{if◌then◌else◌}
 use mathlib.Core.Path.{◌≡◌, refl, sym, ap, ◌∙◌}
 use mathlib.Core.Bool.{Bool, true, false}
 use mathlib.Core.List.{◌++◌}
@@ -8,7 +9,6 @@ use borrow.Author.Tests.{lt-ltb, le-ltb}
 use lib.Dec.{T}
 use lib.ListN.{length, get_or}
 use lib.Seq.{get_or-append-add}
-use Rattle.rules.specs.Base.{if◌then◌else◌}
 use Rattle.rules.specs.Constants.{most_threads, most_statements}
 use Rattle.rules.specs.Program.{Statement, Program}
 use Rattle.rules.specs.Format.{Bytes, AreBytes, byte, got, read_sheet}

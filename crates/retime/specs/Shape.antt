@@ -1,6 +1,6 @@
 -- What the code finds and gives back, in terms of the rule.
-use Rattle.std.specs.Prelude.{◌≡◌, Bool, true, false, ◌&&◌, List, [], ◌∷◌, ℕ, ◌+◌, leb, ℤ}
-use Rattle.rules.specs.Base.{if◌then◌else◌, at_front}
+use Rattle.std.specs.Prelude.{◌≡◌, Bool, true, false, ◌&&◌, List, [], ◌∷◌, ℕ, ◌+◌, leb, ℤ, if◌then◌else◌}
+use Rattle.rules.specs.Base.{at_front}
 use Rattle.rules.specs.Constants.{greatest_time}
 use Rattle.rules.specs.Program.{Statement, Program}
 use Rattle.rules.specs.Format.{Bytes, byte, num16, got, times_fit, read_sheet}

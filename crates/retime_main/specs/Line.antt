@@ -1,6 +1,5 @@
 -- What the program prints of a sheet: of new times for one of its statements, and of a change taken back.
-use Rattle.std.specs.Prelude.{◌≡◌, [], ◌∷◌, ◌++◌, ℕ, ◌+◌, eqb, take}
-use Rattle.rules.specs.Base.{if◌then◌else◌}
+use Rattle.std.specs.Prelude.{◌≡◌, [], ◌∷◌, ◌++◌, ℕ, ◌+◌, eqb, take, if◌then◌else◌}
 use Rattle.rules.specs.Constants.{longest_sheet, lent_by_program}
 use Rattle.rules.specs.Format.{Bytes, AreBytes}
 use Rattle.rules.specs.Search.{answer}

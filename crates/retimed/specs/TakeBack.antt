@@ -1,6 +1,5 @@
 -- A change of times taken back (02, ticket 8).
-use Rattle.std.specs.Prelude.{◌≡◌, Bool, ◌&&◌, List, [], ◌∷◌, ℕ, eqb}
-use Rattle.rules.specs.Base.{if◌then◌else◌}
+use Rattle.std.specs.Prelude.{◌≡◌, Bool, ◌&&◌, List, [], ◌∷◌, ℕ, eqb, if◌then◌else◌}
 use Rattle.rules.specs.Refusal.{number, off_range, changed_since}
 use Rattle.rules.specs.Program.{Statement}
 use Rattle.rules.specs.Format.{Bytes, Got, bad, got, need}

@@ -1,12 +1,12 @@
 -- Two readings alike, in what is read and in refusals, that end at a place or behind it; and that the readers' combinators keep them
 -- so.
+use Rattle.std.specs.Prelude.{if◌then◌else◌}
 use mathlib.Core.Path.{◌≡◌, refl, ap, ◌∙◌, subst}
 use mathlib.Core.Bool.{Bool, true, false}
 use mathlib.Core.List.{List, [], ◌∷◌, ◌++◌}
 use Prim.Native.Nat.{ℕ, zero, suc, ◌≤◌}
 use lib.Dec.{eqb}
 use lib.ListN.{length}
-use Rattle.rules.specs.Base.{if◌then◌else◌}
 use Rattle.rules.specs.Refusal.{Refusal, bad_expression, no_such_name, no_halt, too_many}
 use Rattle.rules.specs.Program.{is_halt, Statement}
 use Rattle.rules.specs.Format.{Got, bad, got, and_then, need, map_got, exactly, Here, wrong, more, done, on_here, read_many, last_halts, target_fits, targets_fit, close}

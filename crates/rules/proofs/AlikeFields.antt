@@ -1,5 +1,6 @@
 -- What is read from a place on depends on the sheet's length and on the bytes from that place on: two sheets that agree there
 -- read alike. Here fields and expressions.
+use Rattle.std.specs.Prelude.{if◌then◌else◌}
 use mathlib.Core.Path.{◌≡◌, refl, ap, subst}
 use mathlib.Core.Bool.{Bool}
 use mathlib.Core.List.{List, [], ◌∷◌, ◌++◌}
@@ -9,7 +10,6 @@ use lib.Dec.{leb, ltb, eqb}
 use lib.IntN.{ℤ}
 use lib.Signed.{le_z}
 use lib.ListN.{length}
-use Rattle.rules.specs.Base.{if◌then◌else◌}
 use Rattle.rules.specs.Refusal.{short, out_of_turn, bad_length, off_range, no_such_name, bad_expression}
 use Rattle.rules.specs.Constants.{most_variables, most_locks}
 use Rattle.rules.specs.Interval.{Interval, interval, Operator}

@@ -1,10 +1,10 @@
 -- What is read from a place on depends on the bytes from there on: statements and threads.
+use Rattle.std.specs.Prelude.{if◌then◌else◌}
 use mathlib.Core.Path.{◌≡◌, refl, ap, subst}
 use mathlib.Core.List.{[]}
 use Prim.Native.Nat.{ℕ, zero, suc, ◌+◌, ◌≤◌}
 use native.Mathlib.Omega.{arith}
 use lib.Dec.{leb, ltb, eqb}
-use Rattle.rules.specs.Base.{if◌then◌else◌}
 use Rattle.rules.specs.Refusal.{short, bad_length, off_range, no_such_name}
 use Rattle.rules.specs.Constants.{deepest, most_registers, most_threads, most_statements}
 use Rattle.rules.specs.Program.{assign, branch}

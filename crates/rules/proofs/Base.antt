@@ -1,4 +1,5 @@
 -- Laws of choice by a test, of tests on all of several things, and of a property that every or some element of a list has.
+use Rattle.std.specs.Prelude.{if◌then◌else◌}
 use mathlib.Core.Bool.{Bool, true, false, not, ◌&&◌, ◌||◌}
 use mathlib.Core.List.{List, [], ◌∷◌, ◌++◌}
 use Prim.Native.Nat.{ℕ, zero, suc, ◌<◌}
@@ -8,10 +9,10 @@ use native.Mathlib.Omega.{arith}
 use mathlib.Core.Path.{◌≡◌, refl, subst, sym}
 use lib.Dec.{T}
 use lib.ListN.{length, get_or, set}
-use Rattle.rules.specs.Base.{if◌then◌else◌, all_below, Each, nil, ◌&◌}
+use Rattle.rules.specs.Base.{all_below, Each, nil, ◌&◌}
 
 -- what holds of both choices, each under its test, holds of the choice
-pub if-ind {ℓ κ} : {X : Type ℓ} (b : Bool) (x y : X) (P : X → Type κ) → (T b → P x) → (T (not b) → P y) → P (if b then x else y)
+pub if-ind {κ} : {X : Type 0} (b : Bool) (x y : X) (P : X → Type κ) → (T b → P x) → (T (not b) → P y) → P (if b then x else y)
 if-ind true x y P f g = f tt
 if-ind false x y P f g = g tt
 

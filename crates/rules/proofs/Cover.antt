@@ -1,5 +1,6 @@
 -- One event covered: where a state of the search contains a state of a run, the states that the search makes for a thread's
 -- event contain what the event leaves.
+use Rattle.std.specs.Prelude.{if◌then◌else◌}
 use mathlib.Core.Path.{◌≡◌, refl, sym, ap, subst}
 use mathlib.Core.Bool.{Bool, true, false, not}
 use mathlib.Core.Option.{Option, none, some}
@@ -8,7 +9,6 @@ use Prim.Native.Nat.{ℕ, zero, suc, ◌≤◌}
 use lib.Dec.{T}
 use lib.IntN.{ℤ}
 use lib.ListN.{get_or, set}
-use Rattle.rules.specs.Base.{if◌then◌else◌}
 use Rattle.rules.specs.Refusal.{Result, value, fault, on_value}
 use Rattle.rules.specs.Interval.{Interval, ◌∈◌}
 use Rattle.rules.specs.Program.{Action, halt, skip, assign, branch, store, load, unlock, lock, is_halt, Thread, Program}

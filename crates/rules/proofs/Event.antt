@@ -1,4 +1,5 @@
 -- Laws of one event of a timed run: what makes an event, and what its step leaves.
+use Rattle.std.specs.Prelude.{if◌then◌else◌}
 use mathlib.Core.Path.{◌≡◌, refl, subst}
 use mathlib.Core.Bool.{Bool, not, ◌&&◌, ◌||◌}
 use mathlib.Core.Option.{none}
@@ -9,7 +10,7 @@ use native.Mathlib.Omega.{arith}
 use lib.Dec.{T, leb, leb→le, le→leb}
 use lib.IntN.{ℤ}
 use lib.ListN.{length, get_or, set, get_or-eq_default}
-use Rattle.rules.specs.Base.{if◌then◌else◌, all_below}
+use Rattle.rules.specs.Base.{all_below}
 use Rattle.rules.specs.Refusal.{Result, value, fault, on_value}
 use Rattle.rules.specs.Program.{Action, halt, skip, assign, branch, store, load, unlock, lock, is_halt, Thread, Program, no_statement, no_thread}
 use Rattle.rules.specs.Lock.{may_take}

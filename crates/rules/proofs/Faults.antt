@@ -1,5 +1,6 @@
 -- Which of 10 and 16 is told: an expression or a condition has the same fault in the search and in a run where every value is known.
 -- (The worked rows are in Worked.)
+use Rattle.std.specs.Prelude.{if◌then◌else◌}
 use mathlib.Core.Path.{◌≡◌, refl, ap, ◌∙◌}
 use mathlib.Core.Bool.{Bool, true, false, ◌&&◌}
 use mathlib.Core.List.{List, [], ◌∷◌, map}
@@ -7,7 +8,6 @@ use Prim.Native.Nat.{ℕ, zero, suc}
 use lib.IntN.{ℤ, pos}
 use lib.Signed.{le_z}
 use lib.ListN.{get_or}
-use Rattle.rules.specs.Base.{if◌then◌else◌}
 use Rattle.rules.specs.Refusal.{Result, value, fault, no_reading, off_scale, on_value, on_both}
 use Rattle.rules.specs.Constants.{half32}
 use Rattle.rules.specs.Interval.{interval, min_z, max_z, eq_z, in_range, Operator, plus, minus, times, divide, operate, divides_by_zero, calculate, hull, holds_zero, may_divide_by_zero, fits, within, combine}

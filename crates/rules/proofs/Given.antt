@@ -1,11 +1,12 @@
 -- Which refusals a search gives, and at which place: 10 and 16 at a statement, 11 to 14 at place 0, no other. So it is for any step that
 -- stops with these only, and the step of 01 is such a step.
+use Rattle.std.specs.Prelude.{if◌then◌else◌}
 use mathlib.Core.Option.{Option}
 use mathlib.Core.List.{List, [], ◌∷◌, ◌++◌}
 use Prim.Native.Nat.{ℕ, zero, suc, ◌+◌, max}
 use lib.Dec.{leb, ltb}
 use lib.ListN.{length}
-use Rattle.rules.specs.Base.{if◌then◌else◌, all}
+use Rattle.rules.specs.Base.{all}
 use Rattle.rules.specs.Refusal.{Refusal, no_reading, stuck, past_limit, out_of_steps, out_of_room, off_scale, Result, value, fault, on_both}
 use Rattle.rules.specs.Constants.{half32}
 use Rattle.rules.specs.Interval.{Interval, Operator, operate, hull, may_divide_by_zero, fits, within, combine}

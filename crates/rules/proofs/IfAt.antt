@@ -1,4 +1,5 @@
 -- A property of what is got and of the place behind it, carried through the readers' connectives.
+use Rattle.std.specs.Prelude.{if◌then◌else◌}
 use mathlib.Core.Path.{◌≡◌, refl, sym, ap, subst}
 use mathlib.Core.Bool.{Bool, true, false}
 use mathlib.Core.List.{List, [], ◌∷◌, ◌++◌}
@@ -6,7 +7,6 @@ use Prim.Native.Nat.{ℕ, zero, suc, ◌+◌, ◌≤◌}
 use native.Mathlib.Omega.{arith}
 use lib.Dec.{T, eqb, eqb→eq, eqb_refl}
 use lib.ListN.{length, length-append}
-use Rattle.rules.specs.Base.{if◌then◌else◌}
 use Rattle.rules.specs.Refusal as R
 use Rattle.rules.specs.Refusal.{short, out_of_turn, bad_length, off_range, bad_expression, too_many}
 use Rattle.rules.specs.Format.{Bytes, Got, bad, got, need, and_then, map_got, exactly, Here, wrong, more, done, on_here, read_many, has_body, sized, due}

@@ -1,5 +1,6 @@
 -- Interval arithmetic is sound, for every width: a value on each interval has a result, in range and inside the result's
 -- interval; and narrower intervals give a narrower result.
+use Rattle.std.specs.Prelude.{if◌then◌else◌}
 use mathlib.Core.Path.{◌≡◌, refl, sym, subst}
 use mathlib.Core.Bool.{true, ◌&&◌}
 use Prim.Native.Nat.{ℕ, zero, suc, ◌≤◌, zero-le}
@@ -7,7 +8,6 @@ use native.Mathlib.Omega.{arith}
 use lib.Dec.{T, T_not, ltb, leb, leb→le, le→leb, ltb→lt, lt→ltb}
 use lib.IntN.{ℤ, pos, negsuc, neg_ℤ}
 use lib.Signed.{mag, le_z, lt_z, ◌≤ℤ◌, ≤ℤ_refl, le_z_yes}
-use Rattle.rules.specs.Base.{if◌then◌else◌}
 use Rattle.rules.specs.Refusal.{Refusal, no_reading, off_scale, Result, value, fault}
 use Rattle.rules.specs.Interval.{Interval, ◌∈◌, eq_z, in_range, Operator, plus, minus, times, divide, operate, divides_by_zero, calculate, hull, holds_zero, may_divide_by_zero, fits, within, combine}
 use Rattle.rules.proofs.Base.{if-ind, and_left, and_right, and_both, not-both, same_test}

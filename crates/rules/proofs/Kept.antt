@@ -1,11 +1,11 @@
 -- The five numbers under a larger budget and with a larger buffer, for any step that does not look at the budget and meets the
 -- slots only to stop (`Loop.Keeps`).
+use Rattle.std.specs.Prelude.{if◌then◌else◌}
 use mathlib.Core.Path.{◌≡◌, refl, ap, subst}
 use mathlib.Core.Bool.{Bool, true, false}
 use Prim.Native.Nat.{ℕ, ◌/◌, ◌≤◌}
 use native.Mathlib.Omega.{arith}
 use lib.Dec.{T, eqb, eqb→eq}
-use Rattle.rules.specs.Base.{if◌then◌else◌}
 use Rattle.rules.specs.Refusal.{Refusal, number, out_of_steps, out_of_room}
 use Rattle.rules.specs.Constants.{numbers_per_state}
 use Rattle.rules.specs.Program.{Program}

@@ -1,12 +1,12 @@
 -- Laws of a search's loop, for any step: a larger budget, another budget in the program and more slots leave its end as it was,
 -- where it was not for want of steps or room. And that the step of 01 is one of which they speak.
+use Rattle.std.specs.Prelude.{if◌then◌else◌}
 use mathlib.Core.Path.{◌≡◌, refl, sym, ap, ◌∙◌, subst}
 use mathlib.Core.List.{List, [], ◌∷◌, ◌++◌}
 use Prim.Native.Nat.{ℕ, zero, suc, ◌+◌, ◌≤◌}
 use native.Mathlib.Nat.{le_trans, le_of_suc-le-suc, not-suc-le-zero}
 use lib.Dec.{leb, leb→le, le→leb}
 use lib.ListN.{length}
-use Rattle.rules.specs.Base.{if◌then◌else◌}
 use Rattle.rules.specs.Refusal.{Refusal, number, out_of_steps, out_of_room}
 use Rattle.rules.specs.Program.{Program}
 use Rattle.rules.specs.Search.{State, Live, Turn, refused, ended, follow, turn_of, turn, live_from, Window, unseen, Step, stop, go_on, after_turn, Stepper, search_step, End, resume, search_by, start, from_by}

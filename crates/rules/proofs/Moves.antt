@@ -1,5 +1,6 @@
 -- What the new states of a turn are, for any state: in each one thread has moved, and the low of its clock is later and within the
 -- limit; and there are at most two of them for each thread.
+use Rattle.std.specs.Prelude.{if◌then◌else◌}
 use mathlib.Core.Path.{◌≡◌, refl, ◌∙◌, ap}
 use mathlib.Core.Option.{Option, none, some}
 use mathlib.Core.List.{List, [], ◌∷◌, ◌++◌}
@@ -7,7 +8,7 @@ use Prim.Native.Nat.{ℕ, suc, ◌+◌, ◌*◌, ◌≤◌, ◌<◌, max}
 use native.Mathlib.Omega.{arith}
 use lib.Dec.{leb, ltb, leb→le, nltb→le}
 use lib.ListN.{length, get_or, set, length-append}
-use Rattle.rules.specs.Base.{if◌then◌else◌, all, Each, nil, ◌&◌}
+use Rattle.rules.specs.Base.{all, Each, nil, ◌&◌}
 use Rattle.rules.specs.Refusal.{stuck, past_limit, Result, value, fault}
 use Rattle.rules.specs.Interval.{Interval}
 use Rattle.rules.specs.Program.{Action, halt, skip, assign, branch, store, load, unlock, lock, is_halt, Thread, Program}

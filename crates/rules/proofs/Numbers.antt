@@ -1,5 +1,6 @@
 -- Which refusals a reading gives: what holds of the refusal in every check holds of the refusal that is given. A sheet that does not read
 -- is refused with a number from 1 to 9.
+use Rattle.std.specs.Prelude.{if◌then◌else◌}
 use mathlib.Core.Path.{◌≡◌, subst}
 use mathlib.Core.Bool.{Bool, true, false, not}
 use mathlib.Core.List.{List, [], ◌∷◌, ◌++◌}
@@ -8,7 +9,6 @@ use native.Mathlib.Decide.{ℕ_discrete}
 use native.Mathlib.Omega.{arith}
 use lib.Dec.{T, leb, eqb, leb→le}
 use lib.ListN.{length}
-use Rattle.rules.specs.Base.{if◌then◌else◌}
 use Rattle.rules.specs.Refusal.{Refusal, number, short, out_of_turn, bad_length, off_range, no_such_name, bad_expression, no_halt, too_many, too_long}
 use Rattle.rules.specs.Constants.{deepest, most_variables, most_registers, most_statements, most_threads}
 use Rattle.rules.specs.Interval.{Interval, Operator}

@@ -1,9 +1,9 @@
 -- An event of a run that lacks a result is refused with 10 or 16: the two faults of arithmetic, and no other.
+use Rattle.std.specs.Prelude.{if◌then◌else◌}
 use mathlib.Core.Bool.{not}
 use mathlib.Core.List.{List}
 use Prim.Native.Nat.{ℕ}
 use lib.IntN.{ℤ}
-use Rattle.rules.specs.Base.{if◌then◌else◌}
 use Rattle.rules.specs.Refusal.{no_reading, off_scale, Result, value, fault, on_value}
 use Rattle.rules.specs.Constants.{half32}
 use Rattle.rules.specs.Interval.{Operator, operate, in_range, divides_by_zero, calculate}

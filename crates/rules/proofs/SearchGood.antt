@@ -1,5 +1,6 @@
 -- Where a search finds a window, every state on its stack is good: each run from a state in it goes on without a fault until
 -- it finishes in the window. By induction over the budget; so the start is good, and some run reaches the window.
+use Rattle.std.specs.Prelude.{if◌then◌else◌}
 use mathlib.Core.Path.{◌≡◌, refl, subst}
 use mathlib.Core.Logic.{◌⊎◌, inl, inr}
 use mathlib.Core.Bool.{Bool, true, false}
@@ -11,7 +12,7 @@ use native.Mathlib.Omega.{arith}
 use lib.Dec.{T, leb}
 use lib.IntN.{ℤ}
 use lib.ListN.{length, replicate}
-use Rattle.rules.specs.Base.{if◌then◌else◌, Each, nil, ◌&◌}
+use Rattle.rules.specs.Base.{Each, nil, ◌&◌}
 use Rattle.rules.specs.Refusal.{Refusal, Result, value, fault}
 use Rattle.rules.specs.Refusal.{out_of_room}
 use Rattle.rules.specs.Interval.{Interval}

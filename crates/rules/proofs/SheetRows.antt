@@ -1,4 +1,5 @@
 -- The rows of a sheet and their bytes: variables up to the first thread, and threads up to the sheet's end.
+use Rattle.std.specs.Prelude.{if◌then◌else◌}
 use mathlib.Core.Path.{◌≡◌, refl, sym, ap, subst, ◌∙◌}
 use mathlib.Core.Bool.{Bool, true, false, not}
 use mathlib.Core.List.{List, [], ◌∷◌, ◌++◌}
@@ -7,7 +8,7 @@ use native.Mathlib.Omega.{arith}
 use lib.Dec.{T, leb, eqb, leb→le, eqb→eq}
 use lib.ListN.{length}
 use borrow.Author.Tests.{le-leb, eq-eqb, ne_eqb}
-use Rattle.rules.specs.Base.{if◌then◌else◌, Each}
+use Rattle.rules.specs.Base.{Each}
 use Rattle.rules.specs.Refusal.{short, out_of_turn}
 use Rattle.rules.specs.Constants.{most_variables, most_threads}
 use Rattle.rules.specs.Interval.{Interval}

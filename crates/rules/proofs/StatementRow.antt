@@ -1,4 +1,5 @@
 -- The statements of a thread and their bytes: a row up to the next thread or the sheet's end, and the closing checks.
+use Rattle.std.specs.Prelude.{if◌then◌else◌}
 use mathlib.Core.Path.{◌≡◌, refl, sym, ap, subst, ◌∙◌}
 use mathlib.Core.Bool.{Bool, true, false, not}
 use mathlib.Core.List.{List, [], ◌∷◌}
@@ -7,7 +8,7 @@ use native.Mathlib.Omega.{arith}
 use lib.Dec.{T, leb, eqb, leb→le, eqb→eq}
 use lib.ListN.{length}
 use borrow.Author.Tests.{le-leb, eq-eqb, ne_eqb}
-use Rattle.rules.specs.Base.{if◌then◌else◌, Each, nil, ◌&◌}
+use Rattle.rules.specs.Base.{Each, nil, ◌&◌}
 use Rattle.rules.specs.Refusal.{short, out_of_turn, no_halt, no_such_name}
 use Rattle.rules.specs.Constants.{most_statements}
 use Rattle.rules.specs.Program.{is_halt, Statement}

@@ -1,5 +1,6 @@
 -- Interval arithmetic is no wider than it must be, for every width: each end of a result is reached, and a refusal comes only
 -- where some pair of values on the intervals has no result, for that very reason: 10 a zero divisor, 16 a result off the width.
+use Rattle.std.specs.Prelude.{if◌then◌else◌}
 use mathlib.Core.Path.{◌≡◌, refl, subst, sym}
 use mathlib.Core.Bool.{Bool, true, false, not, ◌&&◌}
 use Prim.Native.Nat.{ℕ}
@@ -7,7 +8,6 @@ use native.Mathlib.Omega.{arith}
 use lib.Dec.{T}
 use lib.IntN.{ℤ, pos}
 use lib.Signed.{le_z, le_z_yes}
-use Rattle.rules.specs.Base.{if◌then◌else◌}
 use Rattle.rules.specs.Refusal.{Refusal, no_reading, off_scale, Result, value, fault}
 use Rattle.rules.specs.Interval.{Interval, ◌∈◌, eq_z, in_range, Operator, plus, minus, times, divide, operate, divides_by_zero, calculate, hull, holds_zero, may_divide_by_zero, fits, within, combine}
 use Rattle.rules.specs.Faults.{LacksResult}

@@ -1,5 +1,6 @@
 -- One turn, for any state of the search and any state of a run in it: every event of the run is covered by a state that the
 -- turn makes and lies within the limit; a run that has finished lies between the ends of a turn that has ended.
+use Rattle.std.specs.Prelude.{if◌then◌else◌}
 use mathlib.Core.Path.{◌≡◌, refl, sym, ap, ◌∙◌, subst}
 use mathlib.Core.Bool.{not}
 use mathlib.Core.List.{List, [], ◌∷◌}
@@ -8,7 +9,7 @@ use native.Mathlib.Nat.{le_trans, le_of_suc-le-suc, not-suc-le-zero}
 use native.Mathlib.Omega.{arith}
 use lib.Dec.{T, T_not, leb, ltb, le→leb, nltb→le}
 use lib.ListN.{length, get_or}
-use Rattle.rules.specs.Base.{if◌then◌else◌, all, Each, nil, ◌&◌}
+use Rattle.rules.specs.Base.{all, Each, nil, ◌&◌}
 use Rattle.rules.specs.Refusal.{stuck, past_limit, Result}
 use Rattle.rules.specs.Program.{Statement, Thread, Program, is_halt, no_statement, no_thread}
 use Rattle.rules.specs.Search.{ThreadState, State, Live, Next, unread, states, Turn, refused, ended, follow, effect, before, events, live_from, statement_at, greatest_low, greatest_high, turn_bound, turn_of, turn, waits}

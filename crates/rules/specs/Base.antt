@@ -1,10 +1,5 @@
--- Choice by a computed test, tests on all of several things, and what is common to promises.
-use Rattle.std.specs.Prelude.{Bool, true, false, ◌&&◌, List, [], ◌∷◌, ◌++◌, ℕ, zero, suc, ltb, length, drop}
-
-infix 1 if◌then◌else◌
-abbrev pub if◌then◌else◌ {ℓ} : {X : Type ℓ} → Bool → X → X → X
-if◌then◌else◌ true x y = x
-if◌then◌else◌ false x y = y
+-- Tests on all of several things, and what is common to promises.
+use Rattle.std.specs.Prelude.{Bool, true, false, ◌&&◌, List, [], ◌∷◌, ◌++◌, ℕ, zero, suc, ltb, length, drop, if◌then◌else◌}
 
 -- every element of a list passes the test
 unfoldable pub all : {A : Type 0} → (A → Bool) → List A → Bool

@@ -1,9 +1,8 @@
 -- Expressions over intervals, and narrowing by a condition (01, "The search").
-use Rattle.std.specs.Prelude.{◌&&◌, List, [], ◌∷◌, ℕ, ℤ, pos, get_or, set}
+use Rattle.std.specs.Prelude.{◌&&◌, List, [], ◌∷◌, ℕ, ℤ, pos, get_or, set, if◌then◌else◌}
 use Rattle.std.proofs.Math.Option.{Option, none, some}
 use Rattle.std.proofs.Math.IntN.{pred_ℤ, suc_ℤ}
 use Rattle.std.specs.Int.Signed.{le_z, lt_z}
-use Rattle.rules.specs.Base.{if◌then◌else◌}
 use Rattle.rules.specs.Refusal.{Result, value, fault, on_both}
 use Rattle.rules.specs.Constants.{half32}
 use Rattle.rules.specs.Interval.{Interval, interval, combine, meet, join, min_z, max_z, eq_z}

@@ -1,8 +1,8 @@
 -- The sheet: from bytes to a program, or the first refusal from 1 to 9 with its place (01, "The sheet" and "What the tool
 -- says no to"). Every reader takes the whole sheet and a place in it.
-use Rattle.std.specs.Prelude.{Bool, true, false, ◌&&◌, not, List, [], ◌∷◌, ◌++◌, ℕ, zero, suc, ◌+◌, ◌-◌, ◌*◌, ◌<◌, leb, ltb, eqb, ℤ, pos, negsuc, length, get_or}
+use Rattle.std.specs.Prelude.{Bool, true, false, ◌&&◌, not, List, [], ◌∷◌, ◌++◌, ℕ, zero, suc, ◌+◌, ◌-◌, ◌*◌, ◌<◌, leb, ltb, eqb, ℤ, pos, negsuc, length, get_or, if◌then◌else◌}
 use Rattle.std.specs.Int.Signed.{le_z}
-use Rattle.rules.specs.Base.{if◌then◌else◌, Each}
+use Rattle.rules.specs.Base.{Each}
 use Rattle.rules.specs.Refusal.{Refusal, short, out_of_turn, bad_length, off_range, no_such_name, bad_expression, no_halt, too_many, too_long}
 use Rattle.rules.specs.Constants.{longest_sheet, deepest, most_variables, most_registers, most_locks, most_threads, most_statements, greatest_limit, greatest_budget}
 use Rattle.rules.specs.Interval.{Interval, interval, Operator, plus, minus, times, divide}

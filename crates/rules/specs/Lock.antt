@@ -1,7 +1,6 @@
 -- Locks: one rule for runs and for the search. A lock has "an owner or none".
-use Rattle.std.specs.Prelude.{Bool, true, ℕ, eqb}
+use Rattle.std.specs.Prelude.{Bool, true, ℕ, eqb, if◌then◌else◌}
 use Rattle.std.proofs.Math.Option.{Option, none, some}
-use Rattle.rules.specs.Base.{if◌then◌else◌}
 
 abbrev pub Owner : Type 0
 Owner = Option ℕ

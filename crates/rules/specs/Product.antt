@@ -1,8 +1,7 @@
 -- The product (01, that section): what its small program lends and prints.
-use Rattle.std.specs.Prelude.{[], ◌∷◌, ◌++◌, ℕ, zero, suc, ◌+◌, ◌/◌, ◌%◌, ltb}
+use Rattle.std.specs.Prelude.{[], ◌∷◌, ◌++◌, ℕ, zero, suc, ◌+◌, ◌/◌, ◌%◌, ltb, if◌then◌else◌}
 use Prim.Native.Char.{code}
 use Prim.Native.String as S
-use Rattle.rules.specs.Base.{if◌then◌else◌}
 use Rattle.rules.specs.Constants.{lent_by_program}
 use Rattle.rules.specs.Format.{Bytes}
 use Rattle.rules.specs.Search.{Answer, answer}

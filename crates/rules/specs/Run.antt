@@ -1,8 +1,8 @@
 -- A timed run (01, that section): one step over single values, lists of events, starts and finishes.
-use Rattle.std.specs.Prelude.{◌≡◌, Bool, true, false, ◌&&◌, ◌||◌, not, List, [], ◌∷◌, ℕ, suc, ◌+◌, max, T, leb, ℤ, pos, length, get_or, set, replicate}
+use Rattle.std.specs.Prelude.{◌≡◌, Bool, true, false, ◌&&◌, ◌||◌, not, List, [], ◌∷◌, ℕ, suc, ◌+◌, max, T, leb, ℤ, pos, length, get_or, set, replicate, if◌then◌else◌}
 use Rattle.std.proofs.Math.Option.{none}
 use Rattle.std.specs.Int.Signed.{lt_z}
-use Rattle.rules.specs.Base.{if◌then◌else◌, all_below}
+use Rattle.rules.specs.Base.{all_below}
 use Rattle.rules.specs.Refusal.{Refusal, Result, value, fault, on_value, on_both}
 use Rattle.rules.specs.Constants.{half32}
 use Rattle.rules.specs.Interval.{Interval, ◌∈◌, eq_z, calculate}

@@ -1,7 +1,7 @@
 -- The search over states of intervals, and the five numbers of the whole (01, "The search").
-use Rattle.std.specs.Prelude.{Bool, false, ◌&&◌, not, List, [], ◌∷◌, ◌++◌, map, ℕ, zero, suc, ◌+◌, ◌/◌, min, max, leb, ltb, eqb, length, get_or, set, replicate}
+use Rattle.std.specs.Prelude.{Bool, false, ◌&&◌, not, List, [], ◌∷◌, ◌++◌, map, ℕ, zero, suc, ◌+◌, ◌/◌, min, max, leb, ltb, eqb, length, get_or, set, replicate, if◌then◌else◌}
 use Rattle.std.proofs.Math.Option.{Option, none, some}
-use Rattle.rules.specs.Base.{if◌then◌else◌, all}
+use Rattle.rules.specs.Base.{all}
 use Rattle.rules.specs.Refusal.{Refusal, number, stuck, past_limit, out_of_steps, out_of_room, label_broken, Result, value, fault}
 use Rattle.rules.specs.Constants.{numbers_per_state}
 use Rattle.rules.specs.Interval.{Interval}

@@ -1,11 +1,11 @@
 -- Readings one behind the other, what was read replaced, a line's end, and a range's two ends.
+use Rattle.std.specs.Prelude.{if◌then◌else◌}
 use mathlib.Core.Path.{◌≡◌, refl, sym, ap, ◌∙◌}
 use mathlib.Core.Bool.{Bool, true, false}
 use mathlib.Core.List.{[], ◌∷◌}
 use Prim.Native.Nat.{ℕ}
 use native.Mathlib.Omega.{arith}
 use lib.Dec.{eqb}
-use Rattle.rules.specs.Base.{if◌then◌else◌}
 use Rattle.rules.specs.Format.{Bytes}
 use Rattle.text.specs.Words.{bytes, Read, stop, took, then_read, map_read, spaces, symbol, newline, line_end}
 use Rattle.text.specs.Lines.{range, word_only, head_line}

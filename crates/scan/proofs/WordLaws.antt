@@ -1,4 +1,5 @@
 -- Words and numbers of a text, read from a place.
+use Rattle.std.specs.Prelude.{if◌then◌else◌}
 use mathlib.Core.Path.{◌≡◌, refl, sym, ap, ◌∙◌}
 use mathlib.Core.Bool.{Bool, true, false, ◌||◌}
 use mathlib.Core.List.{[], ◌∷◌}
@@ -11,7 +12,6 @@ use lib.Dec.{T, eqb, ltb, ltb→lt}
 use lib.IntN.{pos, negsuc}
 use lib.ListN.{length, drop, get_or, drop_of_length-le}
 use lib.Seq.{drop-cons}
-use Rattle.rules.specs.Base.{if◌then◌else◌}
 use Rattle.rules.specs.Format.{Bytes}
 use Rattle.rules.specs.Constants.{half32}
 use Rattle.text.specs.Convert.{fits_signed}
@@ -63,7 +63,7 @@ module _ {A : Type 0} (a : A) (s : Bytes) (p : ℕ) where
   apart_other h d l = rw (here s p h, d, l)
 
 map-choice : {A B : Type 0} (f : A → B) (a : A) (b : Bool) (s : Bytes)
-    → map_read f (Rattle.rules.specs.Base.if◌then◌else◌ b (stop s) (took a s)) ≡ Rattle.rules.specs.Base.if◌then◌else◌ b (stop s) (took (f a) s)
+    → map_read f (Rattle.std.specs.Prelude.if◌then◌else◌ b (stop s) (took a s)) ≡ Rattle.std.specs.Prelude.if◌then◌else◌ b (stop s) (took (f a) s)
 unfolding map_read
 map-choice f a true s = refl
 map-choice f a false s = refl

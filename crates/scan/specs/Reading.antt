@@ -1,6 +1,5 @@
 -- What a reader in code gives, as the rules' own reading of the bytes that are left.
-use Rattle.std.specs.Prelude.{[], ◌∷◌, ℕ, ◌≤◌, min, ℤ, length, drop}
-use Rattle.rules.specs.Base.{if◌then◌else◌}
+use Rattle.std.specs.Prelude.{[], ◌∷◌, ℕ, ◌≤◌, min, ℤ, length, drop, if◌then◌else◌}
 use Rattle.rules.specs.Format.{Bytes}
 use Rattle.rules.specs.Encoding.{unsigned}
 use Rattle.text.specs.Words.{Read, stop, took, word, spell}

@@ -1,7 +1,6 @@
 -- What a reader gives that writes what it reads, as the rules' own reading and the bytes of what it read.
-use Rattle.std.specs.Prelude.{◌≡◌, Bool, [], ◌∷◌, ◌++◌, ℕ, zero, suc, ◌+◌, ◌-◌, ◌≤◌, min, T, ltb, length, take, drop, get_or, set}
+use Rattle.std.specs.Prelude.{◌≡◌, Bool, [], ◌∷◌, ◌++◌, ℕ, zero, suc, ◌+◌, ◌-◌, ◌≤◌, min, T, ltb, length, take, drop, get_or, set, if◌then◌else◌}
 use Rattle.std.proofs.lemmas.List.Edits.{sets}
-use Rattle.rules.specs.Base.{if◌then◌else◌}
 use Rattle.rules.specs.Format.{Bytes}
 use Rattle.text.specs.Words.{Read, stop, took}
 use Rattle.scan.specs.declared.step.Built.{Built}

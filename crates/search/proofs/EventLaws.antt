@@ -1,4 +1,5 @@
 -- What the events from thread t on are, by the statement that the code fetched for it.
+use Rattle.std.specs.Prelude.{if◌then◌else◌}
 use mathlib.Core.Path.{◌≡◌, refl, sym, ap, subst, ◌∙◌}
 use mathlib.Core.Bool.{Bool, true, false}
 use mathlib.Core.List.{List, ◌∷◌}
@@ -7,7 +8,6 @@ use native.Mathlib.Omega.{arith}
 use borrow.Author.Tests.{le-leb, lt-leb}
 use lib.IntN.{ℤ}
 use lib.ListN.{length, get_or}
-use Rattle.rules.specs.Base.{if◌then◌else◌}
 use Rattle.rules.specs.Constants.{half32, most_threads}
 use Rattle.rules.specs.Program.{is_halt, Statement, Program}
 use Rattle.rules.specs.Format.{Bytes}

@@ -1,4 +1,5 @@
 -- Laws of a turn: what the events from one thread on come to, from those of the later threads.
+use Rattle.std.specs.Prelude.{if◌then◌else◌}
 use mathlib.Core.Path.{◌≡◌, refl, sym, ap, subst, ◌∙◌}
 use mathlib.Core.Bool.{Bool, true, false}
 use mathlib.Core.List.{List, ◌∷◌}
@@ -8,7 +9,6 @@ use lib.Dec.{leb}
 use lib.IntN.{ℤ}
 use lib.ListN.{length, get_or}
 use lib.Seq.{drop-cons}
-use Rattle.rules.specs.Base.{if◌then◌else◌}
 use Rattle.rules.specs.Refusal as R
 use Rattle.rules.specs.Program.{is_halt, Program, no_thread}
 use Rattle.rules.specs.Search as S

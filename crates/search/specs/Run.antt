@@ -1,5 +1,5 @@
 -- How the code's search ends, in the rules.
-use Rattle.rules.specs.Base.{if◌then◌else◌}
+use Rattle.std.specs.Prelude.{if◌then◌else◌}
 use Rattle.rules.specs.Search as S
 use Rattle.rules.specs.Search.{unseen, seen, fails, finds}
 use Rattle.refusal.specs.Shape.{rule_of}

@@ -1,6 +1,5 @@
 -- What the threads of a state come to at the beginning of a turn.
-use Rattle.std.specs.Prelude.{◌≡◌, Bool, true, false, ◌&&◌, not, List, [], ◌∷◌, ℕ, ◌+◌, ◌≤◌, ◌<◌, min, max, length, get_or}
-use Rattle.rules.specs.Base.{if◌then◌else◌}
+use Rattle.std.specs.Prelude.{◌≡◌, Bool, true, false, ◌&&◌, not, List, [], ◌∷◌, ℕ, ◌+◌, ◌≤◌, ◌<◌, min, max, length, get_or, if◌then◌else◌}
 use Rattle.rules.specs.Constants.{most_locks}
 use Rattle.rules.specs.Base.{all}
 use Rattle.rules.specs.Lock.{Owner, may_take}

@@ -1,6 +1,5 @@
 -- The search of a whole sheet, as the code gives it.
-use Rattle.std.specs.Prelude.{ℕ, eqb}
-use Rattle.rules.specs.Base.{if◌then◌else◌}
+use Rattle.std.specs.Prelude.{ℕ, eqb, if◌then◌else◌}
 use Rattle.rules.specs.Refusal.{number, out_of_room}
 use Rattle.rules.specs.Program.{Program}
 use Rattle.rules.specs.Format.{Got, bad, got}

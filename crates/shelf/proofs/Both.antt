@@ -1,4 +1,5 @@
 -- Both files, as the code goes through them: the numbers of what is found, and the part that they name.
+use Rattle.std.specs.Prelude.{if◌then◌else◌}
 use mathlib.Core.Path.{◌≡◌, refl, sym, ap, subst, subst⁻¹, ◌∙◌}
 use mathlib.Core.Bool.{Bool}
 use mathlib.Core.List.{List, [], ◌∷◌, ◌++◌}
@@ -8,7 +9,6 @@ use lib.ListN.{length, take, drop, set}
 use lib.Seq.{sets-eq}
 use denote.Ref.{Bor}
 use borrow.Author.Tests.{eq-eqb, ne_eqb}
-use Rattle.rules.specs.Base.{if◌then◌else◌}
 use Rattle.rules.specs.Refusal as R
 use Rattle.rules.specs.Refusal.{number, no_such_name}
 use Rattle.rules.specs.Format.{Bytes}

@@ -1,4 +1,5 @@
 -- A pair that is read, and the look as a loop that stands at a place.
+use Rattle.std.specs.Prelude.{if◌then◌else◌}
 use mathlib.Core.Path.{◌≡◌, refl, sym, ap, ◌∙◌, subst}
 use mathlib.Core.Bool.{true}
 use Prim.Native.Nat.{ℕ, zero, suc, ◌+◌, ◌≤◌, ◌<◌}
@@ -6,7 +7,6 @@ use native.Mathlib.Decide.{dec_le}
 use native.Mathlib.Omega.{arith}
 use lib.Dec.{leb, eqb, leb→le, nleb→lt, eqb→eq}
 use lib.ListN.{length}
-use Rattle.rules.specs.Base.{if◌then◌else◌}
 use Rattle.rules.specs.Refusal.{short, out_of_turn}
 use Rattle.rules.specs.Format.{Bytes, Got, bad, got, byte, num16, has_head, has_body, due}
 use Rattle.rules.proofs.Base.{if-ind}

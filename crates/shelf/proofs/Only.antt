@@ -1,4 +1,5 @@
 -- What a file says decides what the look in it comes to.
+use Rattle.std.specs.Prelude.{if◌then◌else◌}
 use mathlib.Core.Path.{◌≡◌, refl, sym, ap, ◌∙◌}
 use mathlib.Core.Bool.{Bool}
 use mathlib.Core.List.{List, [], ◌∷◌, ◌++◌, append_assoc, append-nil}
@@ -7,7 +8,7 @@ use native.Mathlib.Omega.{arith}
 use lib.Dec.{eqb}
 use lib.ListN.{length, length-append}
 use borrow.Author.Tests.{eq-eqb, ne_eqb}
-use Rattle.rules.specs.Base.{if◌then◌else◌, nil, ◌&◌}
+use Rattle.rules.specs.Base.{nil, ◌&◌}
 use Rattle.rules.specs.Refusal.{Refusal}
 use Rattle.rules.specs.Format.{Bytes, Got}
 use Rattle.shelf.specs.Pairs.{pair, Pair, read_pair, hit, miss, stop, on_pair, look_in}

@@ -1,7 +1,6 @@
 -- One file (02, ticket 14): "fields of tag 48 with a 1-byte name, then tag 49 with a sheet's bytes, in pairs"; and the look for a
 -- name in it. Every reader takes the whole file and a place in it.
-use Rattle.std.specs.Prelude.{true, [], ◌∷◌, ◌++◌, ℕ, zero, suc, ◌+◌, leb, eqb, length}
-use Rattle.rules.specs.Base.{if◌then◌else◌}
+use Rattle.std.specs.Prelude.{true, [], ◌∷◌, ◌++◌, ℕ, zero, suc, ◌+◌, leb, eqb, length, if◌then◌else◌}
 use Rattle.rules.specs.Refusal.{Refusal, short}
 use Rattle.rules.specs.Format.{Bytes, Got, bad, got, and_then, need, map_got, byte, num16, has_body, due, sized}
 use Rattle.rules.specs.Encoding.{field}

@@ -1,7 +1,7 @@
 -- The code's data as the rule's, and what it is for a slice to be a part of one that was lent.
-use Rattle.std.specs.Prelude.{◌≡◌, List, [], ◌∷◌, ◌++◌, ℕ, ◌+◌, ◌≤◌, eqb, length}
+use Rattle.std.specs.Prelude.{◌≡◌, List, [], ◌∷◌, ◌++◌, ℕ, ◌+◌, ◌≤◌, eqb, length, if◌then◌else◌}
 use Rattle.std.specs.Borrow.{Bor}
-use Rattle.rules.specs.Base.{if◌then◌else◌, at_front}
+use Rattle.rules.specs.Base.{at_front}
 use Rattle.rules.specs.Refusal as R
 use Rattle.rules.specs.Refusal.{number}
 use Rattle.rules.specs.Format.{Bytes, Got, bad, got}

@@ -1,6 +1,5 @@
 -- What the program takes and gives: a name in decimal; a sheet's bytes, or the line of a refusal.
-use Rattle.std.specs.Prelude.{◌≡◌, [], ◌++◌, ℕ, ◌≤◌, leb, eqb}
-use Rattle.rules.specs.Base.{if◌then◌else◌}
+use Rattle.std.specs.Prelude.{◌≡◌, [], ◌++◌, ℕ, ◌≤◌, leb, eqb, if◌then◌else◌}
 use Rattle.rules.specs.Format.{Bytes}
 use Rattle.rules.specs.Product.{bytes, decimal}
 use Rattle.digits.specs.declared.Number.{Number}

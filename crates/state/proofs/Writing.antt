@@ -1,6 +1,5 @@
 -- What writing and reading the numbers of a state part by part comes to.
 use mathlib.Core.Path.{◌≡◌, refl, sym, ap, ◌∙◌}
-use mathlib.Core.Bool.{true, false, true≢false}
 use mathlib.Core.List.{List, [], ◌∷◌, ◌++◌, append_assoc, append-nil}
 use Prim.Native.Nat.{ℕ, zero, suc, ◌+◌, ◌*◌, ◌<◌, ◌≤◌, ◌^◌, ◌-◌}
 use native.Mathlib.Omega.{arith}
@@ -8,12 +7,11 @@ use native.Mathlib.Nat.{add-zero, zero-add, not-suc-le-zero, le_of_suc-le-suc}
 use native.Mathlib.Numerals.{add-one}
 use lib.ListN.{length, take, drop, get_or, set, replicate, length-append, length-replicate, replicate-append-replicate, drop_of_length-le}
 use lib.Seq.{drop-cons, set_at, append_snoc, take_at, drop_at, drop-drop}
-use lib.IntN.{ℤ, pos, negsuc}
-use lib.Signed.{lt_z, mag}
+use lib.IntN.{ℤ, pos}
+use lib.Signed.{mag}
 use mir.Syntax.{w32}
 use mir.Val.{to_z, of_z}
 use mir.Facts.{to_z-of_z}
-use borrow.Author.Tests.{ltb-true}
 use Rattle.rules.specs.Constants.{numbers_per_state}
 use Rattle.state.specs.declared.Thread.{Thread}
 use Rattle.interval.specs.declared.Span.{Span}
@@ -21,7 +19,7 @@ use borrow.Rule.Slice.PartMut.{put_mid}
 use Rattle.state.specs.declared.State.{State}
 use Rattle.interval.specs.Shape.{zero_span}
 use Rattle.state.specs.Access.{thread_at}
-use Rattle.state.specs.Cells.{spans_cells, owners_cells, thread_cells, encode, byte_cells_from, span_cells_from, span_cells, byte_of, time_of}
+use Rattle.state.specs.Cells.{spans_cells, owners_cells, thread_cells, encode, byte_cells_from, span_cells_from, span_cells}
 
 -- ---- writing at the seam of what is written and what is not yet
 
@@ -74,21 +72,6 @@ spans-length l k (suc n) = omega (arith, spans-length l (suc k) n)
 
 pub spans-more : (l : List Span) (i : ℕ) → span_cells_from l 0 (i + 1) ≡ span_cells_from l 0 i ++ span_cells (get_or l i zero_span)
 spans-more l i = rw add-one (rw zero-add at (spans-snoc l 0 i))
-
--- ---- signed numbers and their tests
-
--- y is what the machine reads back of x
-pub below-zero : (x y : ℤ) → y ≡ x → lt_z y (pos 0) ≡ true → (0 ≡ byte_of x) × (0 ≡ time_of x)
-below-zero (pos n) y e t = absurd (not-suc-le-zero (ltb-true n 0 (ap (λ (z : ℤ). lt_z z (pos 0)) (sym e) ∙ t)))
-below-zero (negsuc n) y e t = (refl, refl)
-
-pub above-byte : (x y : ℤ) → y ≡ x → lt_z (pos 255) y ≡ true → 255 ≡ byte_of x
-above-byte (pos n) y e t = omega (arith, ltb-true 255 n (ap (λ (z : ℤ). lt_z (pos 255) z) (sym e) ∙ t))
-above-byte (negsuc n) y e t = absurd (true≢false (sym t ∙ ap (λ (z : ℤ). lt_z (pos 255) z) e))
-
-pub not-below : (x y : ℤ) → y ≡ x → lt_z y (pos 0) ≡ false → (n : ℕ) × (x ≡ pos n) × (y ≡ pos n)
-not-below (pos n) y e t = (n, refl, e)
-not-below (negsuc n) y e t = absurd (true≢false (ap (λ (z : ℤ). lt_z z (pos 0)) (sym e) ∙ t))
 
 pub drop_all : {A : Type 0} (p d : List A) (i : ℕ) → length d ≤ i → p ++ drop i d ≡ p
 drop_all p d i h = rw (drop_of_length-le d h, append-nil)
@@ -148,11 +131,8 @@ thread-written l m rs th h e er =
     ∙ ap (λ (r : List ℤ). pos th.at ∷ pos th.clock.low.0 ∷ pos th.clock.high.0 ∷ r) er
 
 -- the machine's reading of a signed result
-pub back : {r z : ℤ} → mag r < 2 ^ 31 → r ≡ z → to_z w32 (of_z w32 r) ≡ z
-back h e = to_z-of_z (record { sfits = h }) ∙ e
-
 pub again : (z : ℤ) → mag z < 2 ^ 31 → to_z w32 (of_z w32 z) ≡ z
-again z h = to_z-of_z (record { sfits = h })
+again z h = to_z-of_z {w = w32} (record { sfits = h })
 
 pub slot-size : (a : ℕ) → a + numbers_per_state - a ≡ numbers_per_state
 slot-size a = omega arith

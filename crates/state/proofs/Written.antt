@@ -1,7 +1,7 @@
 -- What the code's writing of numbers into a slot makes of the state that the slot holds.
-use mathlib.Core.Path.{◌≡◌, refl, sym, ap, subst, ◌∙◌}
+use mathlib.Core.Path.{◌≡◌, sym, ap, subst, ◌∙◌}
 use mathlib.Core.List.{List, [], ◌∷◌, ◌++◌}
-use Prim.Native.Nat.{ℕ, zero, suc, ◌+◌, ◌*◌, ◌-◌, ◌^◌, ◌<◌, ◌≤◌}
+use Prim.Native.Nat.{ℕ, ◌+◌, ◌*◌, ◌-◌, ◌^◌, ◌<◌, ◌≤◌}
 use native.Mathlib.Omega.{arith}
 use lib.ListN.{length, set, take, drop, length-set, get_or-append}
 use lib.Seq.{get_or-set_same, get_or-set_other, get_or-take, get_or-drop, get_or-append-add, length-take-le}
@@ -19,26 +19,6 @@ use Rattle.state.proofs.Round.{byte-back, items, all-items}
 use Rattle.state.proofs.Writing.{spans-16}
 use borrow.Rule.Slice.PartMut.{put_mid, take_put, drop_put}
 use Rattle.state.proofs.Slot.{thread-from, Same, decode-variable, decode-owner, moved-from, registers-moved, register-moved}
-
--- ---- numbers that are copied one by one
-
-up_to : {P : Type 0} (k i : ℕ) → k < i + 1 → (k < i → P) → (k ≡ i → P) → P
-up_to zero zero h f g = g refl
-up_to zero (suc i) h f g = f (omega arith)
-up_to (suc k) zero h f g = absurd (omega arith)
-up_to (suc k) (suc i) h f g = up_to k i (omega arith) (λ q. f (omega arith)) (λ e. g (ap suc e))
-
--- one more of them
-pub copied : (l : List ℤ) (i : ℕ) (x : ℤ) (f : ℕ → ℤ) → i < length l → ((k : ℕ) → k < i → cell_at l k ≡ f k) → x ≡ f i → (k : ℕ) → k < i + 1 → cell_at (set l i x) k ≡ f k
-copied l i x f h p e k q =
-    up_to k i q (λ r. get_or-set_other l i k x (pos 0) (λ z. omega arith) ∙ p k r)
-    (λ z. ap (λ (j : ℕ). cell_at (set l i x) j) z ∙ get_or-set_same l i x (pos 0) h ∙ e ∙ ap f (sym z))
-
--- and what holds of each
-pub copied-each : (P : ℤ → Type 0) (l : List ℤ) (i : ℕ) (x : ℤ) → i < length l → ((k : ℕ) → k < i → P (cell_at l k)) → P x → (k : ℕ) → k < i + 1 → P (cell_at (set l i x) k)
-copied-each P l i x h p e k q =
-    up_to k i q (λ r. subst P (sym (get_or-set_other l i k x (pos 0) (λ z. omega arith))) (p k r))
-    (λ z. subst P (sym (ap (λ (j : ℕ). cell_at (set l i x) j) z ∙ get_or-set_same l i x (pos 0) h)) e)
 
 -- numbers of 32 bits hold clocks
 time-small : (z : ℤ) → mag z < 2 ^ 31 → time_of z < half32

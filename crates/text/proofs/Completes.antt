@@ -8,6 +8,7 @@
 --     what stood before them is taken as before, and readers one after another are completed one after another (`then-later`):
 --     the first one to its end and the second from nothing, or, where the first has left more than spaces, the second alone.
 --   * Arithmetic where a condition is due is completed by `<0`: `Logical` holds of what completes a `Thing`.
+use Rattle.std.specs.Prelude.{if◌then◌else◌}
 use mathlib.Core.Path.{◌≡◌, refl, sym, ap, subst, ◌∙◌}
 use mathlib.Core.Bool.{Bool, true, false, not}
 use mathlib.Core.List.{[], ◌∷◌, ◌++◌, append_assoc}
@@ -16,7 +17,7 @@ use native.Mathlib.Decide.{dec_lt}
 use native.Mathlib.Omega.{arith}
 use lib.Dec.{T}
 use lib.ListN.{length}
-use Rattle.rules.specs.Base.{if◌then◌else◌, nil}
+use Rattle.rules.specs.Base.{nil}
 use Rattle.rules.specs.Format.{Bytes, AreBytes}
 use Rattle.rules.proofs.Base.{each_both}
 use Rattle.text.specs.Words.{Read, stop, took, then_read, map_read, spaces}

@@ -1,4 +1,5 @@
 -- Numbers, names and the end of a line, read to the text's end, can be completed.
+use Rattle.std.specs.Prelude.{if◌then◌else◌}
 use mathlib.Core.Path.{◌≡◌, refl, ap, subst, ◌∙◌}
 use mathlib.Core.Bool.{Bool, true, false, ◌||◌}
 use mathlib.Core.List.{List, [], ◌∷◌, ◌++◌}
@@ -8,7 +9,7 @@ use native.Mathlib.Omega.{arith}
 use lib.Dec.{T, eqb}
 use lib.IntN.{pos}
 use borrow.Author.Tests.{eq-eqb}
-use Rattle.rules.specs.Base.{if◌then◌else◌, nil, ◌&◌}
+use Rattle.rules.specs.Base.{nil, ◌&◌}
 use Rattle.rules.specs.Format.{Bytes}
 use Rattle.rules.proofs.Base.{if-ind, not-both}
 use Rattle.rules.proofs.Written.{byte}

@@ -1,5 +1,6 @@
 -- The bytes before the place of a 20 can be completed to a readable text: so that place is no earlier than the first byte that
 -- cannot go on, and the text's end where it is that.
+use Rattle.std.specs.Prelude.{if◌then◌else◌}
 use mathlib.Core.Path.{◌≡◌, refl, sym, ap, subst, ◌∙◌}
 use mathlib.Core.Bool.{Bool, true, false}
 use mathlib.Core.List.{List, [], ◌∷◌, ◌++◌}
@@ -9,7 +10,7 @@ use native.Mathlib.Decide.{dec_lt}
 use native.Mathlib.Omega.{arith}
 use lib.Dec.{T}
 use lib.ListN.{length, take, drop, length-append, length-drop, take-append-drop}
-use Rattle.rules.specs.Base.{if◌then◌else◌, nil}
+use Rattle.rules.specs.Base.{nil}
 use Rattle.rules.specs.Format.{Bytes, AreBytes}
 use Rattle.rules.specs.Program.{halt}
 use Rattle.rules.proofs.Base.{each_both}

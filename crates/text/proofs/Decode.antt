@@ -1,4 +1,5 @@
 -- What a statement does can be had back from the bytes that are written for it, so these tell it.
+use Rattle.std.specs.Prelude.{if◌then◌else◌}
 use mathlib.Core.Path.{◌≡◌, refl, sym, ap, ◌∙◌}
 use mathlib.Core.Bool.{◌&&◌}
 use mathlib.Core.Option.{Option, none, some}
@@ -8,7 +9,6 @@ use native.Mathlib.Nat.{div-add-mod'}
 use native.Mathlib.Omega.{arith}
 use lib.Dec.{T, eqb}
 use lib.IntN.{ℤ}
-use Rattle.rules.specs.Base.{if◌then◌else◌}
 use Rattle.rules.specs.Interval.{Operator, plus, minus, times, divide}
 use Rattle.rules.specs.Program.{Arith, constant, register, operation, Condition, always, never, negation, conjunction, equal, less}
 use Rattle.rules.specs.Program.{Action, halt, skip, assign, branch, store, load, unlock, lock}

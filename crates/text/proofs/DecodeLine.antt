@@ -1,4 +1,5 @@
 -- Fields tell their lines: where the fields of a text's lines are those of other lines, the lines are the same.
+use Rattle.std.specs.Prelude.{if◌then◌else◌}
 use mathlib.Core.Path.{◌≡◌, refl, sym, ap, ◌∙◌}
 use mathlib.Core.Bool.{◌&&◌}
 use mathlib.Core.Option.{Option, none, some}
@@ -9,7 +10,6 @@ use lib.Dec.{T, eqb}
 use lib.IntN.{ℤ}
 use lib.ListN.{length, take, drop}
 use lib.Seq.{take-append_seam, drop-append_seam}
-use Rattle.rules.specs.Base.{if◌then◌else◌}
 use Rattle.rules.specs.Interval.{Interval, interval}
 use Rattle.rules.specs.Program.{Action}
 use Rattle.rules.specs.Format.{Bytes, twos_complement}

@@ -1,5 +1,6 @@
 -- What may stand behind a reader that is read to the text's end, so that it takes what it has read: calm behind arithmetic, quiet
 -- behind a condition.
+use Rattle.std.specs.Prelude.{if◌then◌else◌}
 use mathlib.Core.Path.{◌≡◌, refl, sym, subst}
 use mathlib.Core.Bool.{Bool, true, false, not, ◌&&◌, ◌||◌}
 use mathlib.Core.List.{[], ◌∷◌, ◌++◌}
@@ -7,7 +8,7 @@ use Prim.Native.Nat.{ℕ, ◌≤◌, ◌<◌}
 use native.Mathlib.Omega.{arith}
 use lib.Dec.{T, ltb, eqb, ltb→lt, eqb→eq}
 use lib.ListN.{length}
-use Rattle.rules.specs.Base.{if◌then◌else◌, nil, ◌&◌}
+use Rattle.rules.specs.Base.{nil, ◌&◌}
 use Rattle.rules.specs.Format.{Bytes, AreBytes}
 use Rattle.rules.proofs.Base.{if-ind, and_left, and_right, not-both}
 use Rattle.text.specs.Words.{is_digit, is_letter, spaces}

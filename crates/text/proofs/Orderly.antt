@@ -1,6 +1,7 @@
 -- "at the first byte that cannot go on": what a reader has read of a text before the text's end stays when more stands behind it.
 -- A reader for which this holds is orderly, and so are orderly readers one after another. A stop in the text stays, and so does
 -- what is taken with more left than spaces; where a text is read to its end, more of it is read no less far.
+use Rattle.std.specs.Prelude.{if◌then◌else◌}
 use mathlib.Core.Path.{◌≡◌, refl}
 use mathlib.Core.Bool.{Bool, true, false}
 use mathlib.Core.List.{[], ◌∷◌, ◌++◌}
@@ -10,7 +11,6 @@ use native.Mathlib.Decide.{dec_lt}
 use native.Mathlib.Omega.{arith}
 use lib.Dec.{eqb}
 use lib.ListN.{length, length-append}
-use Rattle.rules.specs.Base.{if◌then◌else◌}
 use Rattle.rules.specs.Format.{Bytes}
 use Rattle.text.specs.Words.{Read, stop, took, then_read, map_read, spaces}
 use Rattle.text.proofs.Within.{Within, Shortens, then-within, map-within, on-rest, spaces-shorten}

@@ -1,7 +1,6 @@
 -- From text to sheet (02, ticket 2): number, place and length written, and what the lent buffer holds. "Refused: 20 unreadable
 -- text [..]; then the number 01 gives the sheet it would make, at the start of the line at fault [..]; then 19 output full, place 0."
-use Rattle.std.specs.Prelude.{Bool, true, ◌&&◌, List, [], ◌∷◌, ◌++◌, ℕ, suc, ◌-◌, min, leb, ltb, ℤ, length, replicate}
-use Rattle.rules.specs.Base.{if◌then◌else◌}
+use Rattle.std.specs.Prelude.{Bool, true, ◌&&◌, List, [], ◌∷◌, ◌++◌, ℕ, suc, ◌-◌, min, leb, ltb, ℤ, length, replicate, if◌then◌else◌}
 use Rattle.rules.specs.Refusal.{Refusal, number, off_range, too_long, output_full, unreadable}
 use Rattle.rules.specs.Constants.{longest_sheet, greatest_limit, greatest_budget, half32}
 use Rattle.rules.specs.Interval.{Interval, in_range}

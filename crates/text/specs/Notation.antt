@@ -2,8 +2,7 @@
 -- whole comparison or next `!` after it; `&&` binds last, from the left." Parentheses may stand round arithmetic and round
 -- conditions, 32 deep: d is how many more may open. Where a condition is due, what an opening parenthesis holds is known when
 -- it is read: either kind is a `Thing`, and arithmetic goes on to a comparison.
-use Rattle.std.specs.Prelude.{◌||◌, List, [], ◌∷◌, ℕ, zero, suc, eqb, pos, length}
-use Rattle.rules.specs.Base.{if◌then◌else◌}
+use Rattle.std.specs.Prelude.{◌||◌, List, [], ◌∷◌, ℕ, zero, suc, eqb, pos, length, if◌then◌else◌}
 use Rattle.rules.specs.Format.{Bytes}
 use Rattle.rules.specs.Interval.{plus, minus, times, divide}
 use Rattle.rules.specs.Program.{Arith, constant, register, operation, Condition, always, never, negation, conjunction, equal, less}

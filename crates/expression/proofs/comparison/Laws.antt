@@ -1,4 +1,5 @@
 -- Narrowing by a comparison, for each way out of the code. Assumes nothing.
+use Rattle.std.specs.Prelude.{if◌then◌else◌}
 use Prim.Native.Nat.{ℕ, zero, suc, ◌+◌, ◌≤◌, ◌<◌}
 use mathlib.Core.Path.{◌≡◌, refl, sym, ap, ◌∙◌}
 use mathlib.Core.Bool.{Bool, true, false}
@@ -11,7 +12,6 @@ use lib.Signed.{le_z, lt_z}
 use lib.ListN.{get_or, set, take}
 use lib.Seq.{take-set-lt}
 use borrow.Author.Tests.{lt-ltb, le-ltb}
-use Rattle.rules.specs.Base.{if◌then◌else◌}
 use Rattle.rules.specs.Refusal.{Refusal, bad_expression, no_such_name, Result, value, fault}
 use Rattle.rules.specs.Interval.{Interval, Operator, meet}
 use Rattle.rules.specs.Program.{Arith, operation}

@@ -1,4 +1,5 @@
 -- Ranges: what the readings of the fields of tags 2 and 5 are, as the code goes through them, one and several.
+use Rattle.std.specs.Prelude.{if◌then◌else◌}
 use mathlib.Core.Path.{◌≡◌, refl, sym, ap, ap₂, ◌∙◌}
 use mathlib.Core.Bool.{Bool, true, false, not}
 use mathlib.Core.List.{List, [], ◌∷◌, ◌++◌}
@@ -13,7 +14,6 @@ use mir.Val.{SFits}
 use mir.Val as val
 use mir.Facts.{to_z-of_z}
 use borrow.Author.Tests.{eq-eqb, ne_eqb, leb-true}
-use Rattle.rules.specs.Base.{if◌then◌else◌}
 use Rattle.rules.specs.Constants.{most_variables}
 use Rattle.rules.specs.Refusal as R
 use Rattle.rules.specs.Refusal.{short, out_of_turn}

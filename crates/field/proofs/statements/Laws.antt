@@ -1,4 +1,5 @@
 -- What the readings of a statement are, as the code goes through them, and what stands where a statement may.
+use Rattle.std.specs.Prelude.{if◌then◌else◌}
 use mathlib.Core.Path.{◌≡◌, refl, sym, ap, ap₂, ◌∙◌}
 use mathlib.Core.Bool.{Bool, true, false, not}
 use Prim.Native.Nat.{ℕ, zero, suc, ◌+◌, ◌<◌, ◌≤◌}
@@ -6,7 +7,6 @@ use native.Mathlib.Omega.{arith}
 use lib.Dec.{leb, eqb}
 use lib.ListN.{length}
 use borrow.Author.Tests.{eq-eqb, ne_eqb, le-leb, lt-leb, leb-true}
-use Rattle.rules.specs.Base.{if◌then◌else◌}
 use Rattle.rules.specs.Refusal.{short, out_of_turn, bad_length, off_range}
 use Rattle.rules.specs.Format.{Bytes, byte, num16, Names, read_action, length_fits, times_fit, read_contents, read_statement, has_head, has_body, wrong, more, done, statement_here}
 use Rattle.refusal.specs.declared.Refusal.TheVariants.{Short, OutOfTurn, BadLength, OffRange}

@@ -1,33 +1,13 @@
 -- What the definition says of a field, as the code goes through it.
 use mathlib.Core.Path.{◌≡◌, sym, ap, ◌∙◌}
-use mathlib.Core.Bool.{Bool, true, false, ◌||◌, not}
+use mathlib.Core.Bool.{Bool, true, false, ◌||◌}
 use Prim.Native.Nat.{ℕ, ◌+◌, ◌≤◌, ◌<◌}
 use lib.Dec.{eqb, leb, ltb}
 use lib.Signed.{lt_z}
 use lib.ListN.{length}
 use borrow.Author.Tests.{eq-eqb, ne_eqb, le-leb, lt-leb}
 use Rattle.rules.specs.Format.{Bytes, byte, num16, num32, int32, has_head}
-use Rattle.mended.specs.Mend.{reversed, low_end, end_size, not_halt, closes_at}
-
--- ---- by the tag
-
-pub low-label : (tag : ℕ) → tag ≡ 1 → 11 ≡ low_end tag
-low-label tag t = rw (eq-eqb tag 1 t)
-
-pub low-other : (tag : ℕ) → (tag ≡ 1 → ⊥) → 3 ≡ low_end tag
-low-other tag t = rw (ne_eqb tag 1 t)
-
-pub size-times : (tag : ℕ) → tag ≡ 6 → 2 ≡ end_size tag
-size-times tag t = rw (eq-eqb tag 6 t)
-
-pub size-other : (tag : ℕ) → (tag ≡ 6 → ⊥) → 4 ≡ end_size tag
-size-other tag t = rw (ne_eqb tag 6 t)
-
-pub range-variable : (tag : ℕ) → tag ≡ 2 → true ≡ (eqb tag 2 || eqb tag 5)
-range-variable tag t = rw (eq-eqb tag 2 t)
-
-pub range-register : (tag : ℕ) → (tag ≡ 2 → ⊥) → eqb tag 5 ≡ (eqb tag 2 || eqb tag 5)
-range-register tag t = rw (ne_eqb tag 2 t)
+use Rattle.mended.specs.Mend.{reversed, closes_at}
 
 module _ (s : Bytes) (at : ℕ) where
   -- ---- ends
@@ -67,15 +47,6 @@ module _ (s : Bytes) (at : ℕ) where
       no-ends u v = rw (ne_eqb (byte s at) 1 t, sym is ∙ u, ne_eqb (byte s at) 6 v)
 
   -- ---- halts
-
-  pub no-statement : (byte s at ≡ 6 → ⊥) → false ≡ not_halt s at
-  no-statement t = rw (ne_eqb (byte s at) 6 t)
-
-  pub no_code : {n : ℕ} → n ≡ num16 s (at + 1) → byte s at ≡ 6 → n < 5 → false ≡ not_halt s at
-  no_code {n} e t m = rw (eq-eqb (byte s at) 6 t, sym (ap (leb 5) e) ∙ lt-leb 5 n m)
-
-  pub by_code : {n : ℕ} → n ≡ num16 s (at + 1) → byte s at ≡ 6 → 5 ≤ n → not (eqb (byte s (at + 7)) 0) ≡ not_halt s at
-  by_code {n} e t m = rw (eq-eqb (byte s at) 6 t, sym (ap (leb 5) e) ∙ le-leb 5 n m)
 
   pub closed-end : length s ≤ at → true ≡ closes_at s at
   unfolding closes_at

@@ -73,9 +73,6 @@ module _ (s : Bytes) (at : ℕ) {b : Bool} (is : b ≡ reversed s at) where
   pub ends-room : {low size : ℕ} → b ≡ true → low ≡ low_end (byte s at) → size ≡ end_size (byte s at) → at + low + size + size ≤ behind s at
   ends-room t k w = rw (k, w) (ends-fit s at (is_true (reversed s at) (sym is ∙ t)))
 
-  pub low-room : {low : ℕ} → b ≡ true → low ≡ low_end (byte s at) → at + low ≤ behind s at
-  low-room t k = let h = ends-room t k refl in omega arith
-
   pub field-exchanged : (o : Bytes) (l : List ℕ) (e : Ends) {o' : Bytes} {l' : List ℕ} {x y end low size : ℕ} → b ≡ true → end ≡ behind s at → low ≡ low_end (byte s at) → size ≡ end_size (byte s at)
       → Writes (exchange s at end (at + low) size) o e.bytes o' x → Writes (1 ∷ at ∷ []) l e.numbers l' y
       → Puts (mended_field s at) o l e o' l' (record { bytes = x; numbers = y })

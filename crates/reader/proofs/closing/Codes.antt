@@ -1,5 +1,6 @@
 -- What a statement that was read says of the bytes at its place: whether it is halt, and where it may jump. So closing a
 -- thread can go by the places of its statements.
+use Rattle.std.specs.Prelude.{if◌then◌else◌}
 use mathlib.Core.Path.{◌≡◌, refl, ap, ◌∙◌}
 use mathlib.Core.Bool.{Bool, true, false}
 use mathlib.Core.List.{List, [], ◌∷◌}
@@ -7,7 +8,7 @@ use Prim.Native.Nat.{ℕ, zero, suc, ◌+◌, ◌≤◌}
 use native.Mathlib.Omega.{arith}
 use lib.Dec.{leb, ltb, eqb, leb→le}
 use lib.ListN.{length}
-use Rattle.rules.specs.Base.{if◌then◌else◌, Each, nil, ◌&◌}
+use Rattle.rules.specs.Base.{Each, nil, ◌&◌}
 use Rattle.rules.specs.Refusal as R
 use Rattle.rules.specs.Refusal.{short, bad_length, off_range, no_such_name, no_halt}
 use Rattle.rules.specs.Constants.{most_statements}

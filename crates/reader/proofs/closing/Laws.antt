@@ -1,4 +1,5 @@
 -- Closing a thread, from the places of its statements, as the code goes through them.
+use Rattle.std.specs.Prelude.{if◌then◌else◌}
 use mathlib.Core.Path.{◌≡◌, refl, sym, ap, ◌∙◌}
 use mathlib.Core.Bool.{Bool, true, false}
 use mathlib.Core.List.{List, [], ◌∷◌}
@@ -8,7 +9,6 @@ use lib.Dec.{eqb, ltb}
 use lib.ListN.{length, get_or, take}
 use lib.Seq.{slice, slice-cons, slice_empty, length-slice, get_or-drop, get_or-take}
 use borrow.Author.Tests.{eq-eqb, ne_eqb}
-use Rattle.rules.specs.Base.{if◌then◌else◌}
 use Rattle.rules.specs.Format.{Bytes, byte}
 use Rattle.refusal.specs.declared.Refusal.TheVariants.{NoSuchName, NoHalt}
 use Rattle.field.specs.declared.outcome.End.{End}

@@ -1,8 +1,8 @@
 -- What each statement does to the replay state is what it does in the rules. Assumes nothing.
+use Rattle.std.specs.Prelude.{if◌then◌else◌}
 use Rattle.std.proofs.Common.{◌≡◌, ℕ, suc, ◌<◌, Bool, true, false, List, get_or, set, ℤ, sym, refl, ap, ◌∙◌, arith}
 use mathlib.Core.Option.{none}
 use lib.Seq.{set-get_or}
-use Rattle.rules.specs.Base.{if◌then◌else◌}
 use Rattle.rules.specs.Refusal as Ref
 use Rattle.rules.specs.Refusal.{Result, value, fault, on_value}
 use Rattle.rules.specs.Program as P

@@ -17,7 +17,6 @@ use Rattle.interval.specs.declared.Val.{Val}
 use Rattle.interval.specs.declared.Span.{Span}
 use Rattle.interval.specs.Shape.{interval_of, result_of}
 use Rattle.interval.specs.declared.Reading.{Reading}
-use Rattle.interval.specs.declared.Reading.TheVariants as Reading
 use Rattle.expression.specs.Evaluation.{regs_of, evaluated_in}
 use Rattle.expression.specs.Parts.{check_of, parts_in}
 use Rattle.expression.specs.Comparison.{narrowed_of, unless_flagged}

@@ -9,7 +9,6 @@ use Rattle.rules.specs.Run.{RunState, live, finished}
 use Rattle.rules.specs.Format.{Bytes, bad, got, and_then, need}
 use Rattle.recorded.specs.Follow as F
 use Rattle.recorded.specs.Follow.{longest_record, start_replay, follow_from, follow_record}
-use Rattle.record.specs.declared.replay.Replay.{Replay}
 
 -- whether thread t of a run stands at halt
 abbrev pub stopped : Program → RunState → ℕ → Bool

@@ -1,4 +1,5 @@
 -- A pair and the look, as the code goes through them.
+use Rattle.std.specs.Prelude.{if◌then◌else◌}
 use mathlib.Core.Path.{◌≡◌, refl, sym, ap, ◌∙◌}
 use mathlib.Core.Bool.{Bool, true}
 use Prim.Native.Nat.{ℕ, ◌+◌, ◌-◌, ◌<◌, ◌≤◌}
@@ -6,7 +7,6 @@ use native.Mathlib.Omega.{arith}
 use lib.Dec.{eqb}
 use lib.ListN.{length}
 use borrow.Author.Tests.{eq-eqb, ne_eqb}
-use Rattle.rules.specs.Base.{if◌then◌else◌}
 use Rattle.rules.specs.Refusal.{short}
 use Rattle.rules.specs.Format.{Bytes, Got, bad, got, and_then, need, map_got, byte, num16, has_body, due, sized}
 use Rattle.refusal.specs.declared.Refusal.{Refusal}

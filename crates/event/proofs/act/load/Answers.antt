@@ -20,6 +20,8 @@ returns c =
     λ z h. (
       c.write_register.result,
       refl,
-      pushed-as (ap (λ (i : Interval). moved_by z (decode arg.cells.now) arg.v (suc (thread_at (decode arg.cells.now) arg.v.thread).at) (set (regs_of (get_or z.regs arg.v.thread 0) (thread_at (decode arg.cells.now) arg.v.thread).regs) arg.r i))
+      pushed-as (ap (λ (i : Interval). moved_by z (decode arg.cells.now) arg.v
+          (suc (thread_at (decode arg.cells.now) arg.v.thread).at)
+          (set (regs_of (get_or z.regs arg.v.thread 0) (thread_at (decode arg.cells.now) arg.v.thread).regs) arg.r i))
           (ap interval_of c.variable_of-i.ensures ∙ sym (state-var z (decode arg.cells.now) arg.k h))) (c.write_register.ensures z),
     )

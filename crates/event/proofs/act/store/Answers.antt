@@ -20,5 +20,8 @@ returns c =
       c.push_variable.result,
       refl,
       pushed-as (λ j. moved_with z (decode arg.cells.now) arg.v ((c.next-on.ensures ∙ ap suc c.at_of.ensures) j)
-          (set (state_of z (decode arg.cells.now)).vars arg.k ((ap interval_of c.register_of-i.ensures ∙ sym (regs-get (get_or z.regs arg.v.thread 0) (thread_at (decode arg.cells.now) arg.v.thread).regs arg.r h)) j)) (state_of z (decode arg.cells.now)).owners) (c.push_variable.ensures z),
+          (set (state_of z (decode arg.cells.now)).vars arg.k
+          ((ap interval_of c.register_of-i.ensures ∙ sym (regs-get (get_or z.regs arg.v.thread 0)
+          (thread_at (decode arg.cells.now) arg.v.thread).regs arg.r h)) j)) (state_of z (decode arg.cells.now)).owners)
+          (c.push_variable.ensures z),
     )

@@ -13,4 +13,6 @@ use Rattle.event.proofs.act.write_register.Goals as goal
 pub returns : goal.returns
 returns c =
     let arg = c.args in
-    λ z. pushed-as (ap (λ (at : ℕ). moved_by z (decode arg.cells.now) arg.v at (set (regs_of (get_or z.regs arg.v.thread 0) (thread_at (decode arg.cells.now) arg.v.thread).regs) arg.r (interval_of arg.i))) (c.next-on.ensures ∙ ap suc c.at_of.ensures)) (c.push_register.ensures z)
+    λ z. pushed-as (ap (λ (at : ℕ). moved_by z (decode arg.cells.now) arg.v at
+    (set (regs_of (get_or z.regs arg.v.thread 0) (thread_at (decode arg.cells.now) arg.v.thread).regs) arg.r
+    (interval_of arg.i))) (c.next-on.ensures ∙ ap suc c.at_of.ensures)) (c.push_register.ensures z)

@@ -25,14 +25,27 @@ way-k-requires c =
 pub returns-in-Fault : goal.returns-in-Fault
 returns-in-Fault c =
     let arg = c.args in
-    λ z a n e. branch-faults z arg.slots arg.work.now arg.height (decode arg.cells.now) arg.v (thread_at (decode arg.cells.now) arg.v.thread) arg.target a c.in-Fault.q (sym (ap check_of c.in-Fault.is) ∙ check-of-tree (regs_of arg.v.registers c.registers_of-regs.result) arg.end arg.v.registers (read_condition deepest arg.sheet.now arg.end arg.v.registers arg.at) a c.branch_on-b.result e c.branch_on-b.ensures ∙ ap (λ (rs : List Span). all_parts a (regs_of arg.v.registers rs)) c.registers_of-regs.ensures)
+    λ z a n e. branch-faults z arg.slots arg.work.now arg.height (decode arg.cells.now) arg.v
+    (thread_at (decode arg.cells.now) arg.v.thread) arg.target a c.in-Fault.q
+    (sym (ap check_of c.in-Fault.is) ∙ check-of-tree (regs_of arg.v.registers c.registers_of-regs.result) arg.end
+    arg.v.registers (read_condition deepest arg.sheet.now arg.end arg.v.registers arg.at) a c.branch_on-b.result e
+    c.branch_on-b.ensures ∙ ap (λ (rs : List Span). all_parts a (regs_of arg.v.registers rs)) c.registers_of-regs.ensures)
 
 pub returns-in-Passed : goal.returns-in-Passed
 returns-in-Passed c =
     let arg = c.args in
-    λ z a n e. branches-on z arg.slots arg.work.now arg.height (decode arg.cells.now) arg.v (thread_at (decode arg.cells.now) arg.v.thread) arg.target a c.way-h.new.work c.way-k.new.work c.way-h.result c.way-k.result c.next-on.result
-    (λ k. narrowed_of k c.branch_on-b.result.yes) (λ k. narrowed_of k c.branch_on-b.result.no) n (c.next-on.ensures ∙ ap suc c.at_of.ensures)
-    (sym (ap check_of c.in-Passed.is) ∙ check-of-tree (regs_of arg.v.registers c.registers_of-regs.result) arg.end arg.v.registers (read_condition deepest arg.sheet.now arg.end arg.v.registers arg.at) a c.branch_on-b.result e c.branch_on-b.ensures ∙ ap (λ (rs : List Span). all_parts a (regs_of arg.v.registers rs)) c.registers_of-regs.ensures)
-    (yes-of-tree (regs_of arg.v.registers c.registers_of-regs.result) arg.end arg.v.registers (read_condition deepest arg.sheet.now arg.end arg.v.registers arg.at) a c.branch_on-b.result e c.branch_on-b.ensures ∙ ap (λ (rs : List Span). narrow_yes a (regs_of arg.v.registers rs)) c.registers_of-regs.ensures)
-    (no-of-tree (regs_of arg.v.registers c.registers_of-regs.result) arg.end arg.v.registers (read_condition deepest arg.sheet.now arg.end arg.v.registers arg.at) a c.branch_on-b.result e c.branch_on-b.ensures ∙ ap (λ (rs : List Span). narrow_no a (regs_of arg.v.registers rs)) c.registers_of-regs.ensures)
+    λ z a n e. branches-on z arg.slots arg.work.now arg.height (decode arg.cells.now) arg.v
+    (thread_at (decode arg.cells.now) arg.v.thread) arg.target a c.way-h.new.work c.way-k.new.work c.way-h.result c.way-k.result
+    c.next-on.result
+    (λ k. narrowed_of k c.branch_on-b.result.yes) (λ k. narrowed_of k c.branch_on-b.result.no) n
+    (c.next-on.ensures ∙ ap suc c.at_of.ensures)
+    (sym (ap check_of c.in-Passed.is) ∙ check-of-tree (regs_of arg.v.registers c.registers_of-regs.result) arg.end arg.v.registers
+    (read_condition deepest arg.sheet.now arg.end arg.v.registers arg.at) a c.branch_on-b.result e c.branch_on-b.ensures ∙ ap
+    (λ (rs : List Span). all_parts a (regs_of arg.v.registers rs)) c.registers_of-regs.ensures)
+    (yes-of-tree (regs_of arg.v.registers c.registers_of-regs.result) arg.end arg.v.registers
+    (read_condition deepest arg.sheet.now arg.end arg.v.registers arg.at) a c.branch_on-b.result e c.branch_on-b.ensures ∙ ap
+    (λ (rs : List Span). narrow_yes a (regs_of arg.v.registers rs)) c.registers_of-regs.ensures)
+    (no-of-tree (regs_of arg.v.registers c.registers_of-regs.result) arg.end arg.v.registers
+    (read_condition deepest arg.sheet.now arg.end arg.v.registers arg.at) a c.branch_on-b.result e c.branch_on-b.ensures ∙ ap
+    (λ (rs : List Span). narrow_no a (regs_of arg.v.registers rs)) c.registers_of-regs.ensures)
     (c.way-h.ensures z) (c.way-k.ensures z)

@@ -15,6 +15,7 @@ returns c =
     λ z h. (
       c.push_owner.result,
       refl,
-      pushed-as (unlocks z (decode arg.cells.now) arg.v arg.l h c.next-on.result c.after_unlock-o.result (c.next-on.ensures ∙ ap suc c.at_of.ensures)
+      pushed-as (unlocks z (decode arg.cells.now) arg.v arg.l h c.next-on.result c.after_unlock-o.result
+          (c.next-on.ensures ∙ ap suc c.at_of.ensures)
           (c.after_unlock-o.ensures ∙ ap (λ (o : ℕ). after_unlock arg.v.thread (owner_of o)) c.owner_of.ensures)) (c.push_owner.ensures z),
     )

@@ -13,5 +13,8 @@ use Rattle.event.proofs.push.push_moved.Goals as goal
 pub returns : goal.returns
 returns c =
     let arg = c.args in
-    λ z. slot_pushed arg.work.now c.put_moved.new.slot arg.height c.next_slot-from.result c.one_more.result _ (search rules) c.requires.high c.requires.room c.next_slot-from.ensures c.one_more.ensures
-    (ap (state_of z) c.put_moved.ensures ∙ ap (λ (m : Move). state_of z (moved_to (decode arg.cells.now) m (thread_at (decode arg.cells.now) m.thread).regs)) c.moving-m.ensures ∙ moved-is (decode arg.cells.now) arg.v arg.at (thread_at (decode arg.cells.now) arg.v.thread).regs z)
+    λ z. slot_pushed arg.work.now c.put_moved.new.slot arg.height c.next_slot-from.result c.one_more.result _ (search rules)
+    c.requires.high c.requires.room c.next_slot-from.ensures c.one_more.ensures
+    (ap (state_of z) c.put_moved.ensures ∙ ap (λ (m : Move). state_of z
+    (moved_to (decode arg.cells.now) m (thread_at (decode arg.cells.now) m.thread).regs)) c.moving-m.ensures ∙ moved-is
+    (decode arg.cells.now) arg.v arg.at (thread_at (decode arg.cells.now) arg.v.thread).regs z)

@@ -13,5 +13,8 @@ use Rattle.event.proofs.push.push_owner.Goals as goal
 pub returns : goal.returns
 returns c =
     let arg = c.args in
-    λ z. slot_pushed arg.work.now c.put_owner.new.slot arg.height c.next_slot-from.result c.one_more.result _ (search rules) c.requires.0.high c.requires.0.room c.next_slot-from.ensures c.one_more.ensures
-    (ap (state_of z) c.put_owner.ensures ∙ ap (λ (m : Move). state_of z (with_owner (moved_to (decode arg.cells.now) m (thread_at (decode arg.cells.now) m.thread).regs) arg.l arg.o)) c.moving-m.ensures ∙ moved-owner-is (decode arg.cells.now) arg.v arg.at z arg.l arg.o)
+    λ z. slot_pushed arg.work.now c.put_owner.new.slot arg.height c.next_slot-from.result c.one_more.result _ (search rules)
+    c.requires.0.high c.requires.0.room c.next_slot-from.ensures c.one_more.ensures
+    (ap (state_of z) c.put_owner.ensures ∙ ap (λ (m : Move). state_of z
+    (with_owner (moved_to (decode arg.cells.now) m (thread_at (decode arg.cells.now) m.thread).regs) arg.l arg.o))
+    c.moving-m.ensures ∙ moved-owner-is (decode arg.cells.now) arg.v arg.at z arg.l arg.o)

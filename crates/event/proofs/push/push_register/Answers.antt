@@ -16,5 +16,10 @@ use Rattle.event.proofs.push.push_register.Goals as goal
 pub returns : goal.returns
 returns c =
     let arg = c.args in
-    λ z. slot_pushed arg.work.now c.put_register.new.slot arg.height c.next_slot-from.result c.one_more.result _ (search rules) c.requires.0.high c.requires.0.room c.next_slot-from.ensures c.one_more.ensures
-    (ap (state_of z) c.put_register.ensures ∙ ap (λ (m : Move). state_of z (moved_to (decode arg.cells.now) m (set (thread_at (decode arg.cells.now) m.thread).regs arg.r arg.i))) c.moving-m.ensures ∙ moved-is (decode arg.cells.now) arg.v arg.at (set (thread_at (decode arg.cells.now) arg.v.thread).regs arg.r arg.i) z ∙ ap (moved_by z (decode arg.cells.now) arg.v arg.at) (regs-set (get_or z.regs arg.v.thread 0) (thread_at (decode arg.cells.now) arg.v.thread).regs arg.r arg.i))
+    λ z. slot_pushed arg.work.now c.put_register.new.slot arg.height c.next_slot-from.result c.one_more.result _ (search rules)
+    c.requires.0.high c.requires.0.room c.next_slot-from.ensures c.one_more.ensures
+    (ap (state_of z) c.put_register.ensures ∙ ap (λ (m : Move). state_of z
+    (moved_to (decode arg.cells.now) m (set (thread_at (decode arg.cells.now) m.thread).regs arg.r arg.i))) c.moving-m.ensures ∙
+    moved-is (decode arg.cells.now) arg.v arg.at (set (thread_at (decode arg.cells.now) arg.v.thread).regs arg.r arg.i) z ∙ ap
+    (moved_by z (decode arg.cells.now) arg.v arg.at) (regs-set (get_or z.regs arg.v.thread 0)
+    (thread_at (decode arg.cells.now) arg.v.thread).regs arg.r arg.i))

@@ -12,5 +12,7 @@ use Rattle.event.proofs.push.push_registers.Goals as goal
 pub returns : goal.returns
 returns c =
     let arg = c.args in
-    λ z. slot_pushed arg.work.now c.put_registers.new.slot arg.height c.next_slot-from.result c.one_more.result _ (search rules) c.requires.high c.requires.room c.next_slot-from.ensures c.one_more.ensures
-    (ap (state_of z) c.put_registers.ensures ∙ ap (λ (m : Move). state_of z (moved_to (decode arg.cells.now) m arg.regs)) c.moving-m.ensures ∙ moved-is (decode arg.cells.now) arg.v arg.at arg.regs z)
+    λ z. slot_pushed arg.work.now c.put_registers.new.slot arg.height c.next_slot-from.result c.one_more.result _ (search rules)
+    c.requires.high c.requires.room c.next_slot-from.ensures c.one_more.ensures
+    (ap (state_of z) c.put_registers.ensures ∙ ap (λ (m : Move). state_of z (moved_to (decode arg.cells.now) m arg.regs))
+    c.moving-m.ensures ∙ moved-is (decode arg.cells.now) arg.v arg.at arg.regs z)

@@ -12,10 +12,14 @@ pub returns-then-s-q-eq10 : goal.returns-then-s-q-eq10
 returns-then-s-q-eq10 c =
     let arg = c.args in
     let a = c.spaces_end-q.ensures.1.0 in
-    let h = c.if-s-q.false in
-    (end_line arg.s.now arg.p c.spaces_end-q.result arg.v c.spaces_end-q.ensures.0 c.if-s-q.false c.if-s-q-eq10.true, (search rules, search rules))
+    let h = c.if-s-q.false in (
+      end_line arg.s.now arg.p c.spaces_end-q.result arg.v c.spaces_end-q.ensures.0 c.if-s-q.false c.if-s-q-eq10.true,
+      (search rules, search rules),
+    )
 
 pub returns : goal.returns
 returns c =
-    let arg = c.args in
-    (end-other arg.s.now arg.p c.spaces_end-q.result arg.v c.spaces_end-q.ensures.0 c.if-s-q.false c.if-s-q-eq10.false, c.spaces_end-q.ensures.1)
+    let arg = c.args in (
+      end-other arg.s.now arg.p c.spaces_end-q.result arg.v c.spaces_end-q.ensures.0 c.if-s-q.false c.if-s-q-eq10.false,
+      c.spaces_end-q.ensures.1,
+    )

@@ -14,13 +14,19 @@ returns-then-s-q-eq45 c =
     let arg = c.args in
     let a = c.spaces_end-q.ensures.1.0 in
     let n = c.number_at-n.ensures.1 in
-    let g = c.negated.ensures.1 in
-    (c.negated.ensures.0 _ _ c.number_at-n.ensures.0 ∙ value-minus arg.s.now arg.p c.spaces_end-q.result c.spaces_end-q.ensures.0 c.if-s-q.false c.if-s-q-eq45.true, (search rules, search rules))
+    let g = c.negated.ensures.1 in (
+      c.negated.ensures.0 _ _ c.number_at-n.ensures.0 ∙ value-minus arg.s.now arg.p c.spaces_end-q.result
+          c.spaces_end-q.ensures.0 c.if-s-q.false c.if-s-q-eq45.true,
+      (search rules, search rules),
+    )
 
 pub returns : goal.returns
 returns c =
     let arg = c.args in
     let a = c.spaces_end-q.ensures.1.0 in
     let n = c.digits_at-n.ensures.1 in
-    let g = c.positive.ensures.1 in
-    (c.positive.ensures.0 _ _ c.digits_at-n.ensures.0 ∙ value-plain arg.s.now arg.p c.spaces_end-q.result c.spaces_end-q.ensures.0 c.if-s-q.false c.if-s-q-eq45.false, (search rules, search rules))
+    let g = c.positive.ensures.1 in (
+      c.positive.ensures.0 _ _ c.digits_at-n.ensures.0 ∙ value-plain arg.s.now arg.p c.spaces_end-q.result
+          c.spaces_end-q.ensures.0 c.if-s-q.false c.if-s-q-eq45.false,
+      (search rules, search rules),
+    )

@@ -15,5 +15,8 @@ returns-then-count-eq0 c =
 
 pub returns : goal.returns
 returns c =
-    let arg = c.args in
-    (inserted-moved arg.out.now arg.at arg.end arg.codes.now arg.count c.requires.0 c.if-out-end.false c.shift.ensures c.put_codes.ensures, search rules)
+    let arg = c.args in (
+      inserted-moved arg.out.now arg.at arg.end arg.codes.now arg.count c.requires.0 c.if-out-end.false c.shift.ensures
+          c.put_codes.ensures,
+      search rules,
+    )

@@ -6,7 +6,8 @@ use Rattle.scan.specs.Writing.{Shifted}
 use Rattle.scan.proofs.output.shift.Given as goal
 
 abbrev pub invariant-loop-i : goal.invariant-loop-i
-invariant-loop-i l = (Shifted l.initial.out l.end l.k l.i l.out) × (l.at ≤ l.i) × (l.i ≤ l.end) × (l.end + l.k ≤ length l.initial.out) × (length l.out ≡ length l.initial.out)
+invariant-loop-i l = (Shifted l.initial.out l.end l.k l.i l.out) × (l.at ≤ l.i) × (l.i ≤ l.end) × (l.end + l.k ≤ length
+    l.initial.out) × (length l.out ≡ length l.initial.out)
 
 abbrev pub decreases-loop-i : goal.decreases-loop-i
 decreases-loop-i l = l.i

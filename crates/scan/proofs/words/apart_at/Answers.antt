@@ -13,9 +13,15 @@ returns-then-is_digit c =
     (apart-digit _ _ _ c.if-s-p.false (sym c.is_digit.ensures ∙ c.if-is_digit.true), (search rules, search rules))
 
 pub returns-then-is_letter : goal.returns-then-is_letter
-returns-then-is_letter c =
-    (apart-letter _ _ _ c.if-s-p.false (sym c.is_digit.ensures ∙ c.if-is_digit.false) (sym c.is_letter.ensures ∙ c.if-is_letter.true), (search rules, search rules))
+returns-then-is_letter c = (
+  apart-letter _ _ _ c.if-s-p.false (sym c.is_digit.ensures ∙ c.if-is_digit.false) (sym c.is_letter.ensures ∙
+      c.if-is_letter.true),
+  (search rules, search rules),
+)
 
 pub returns : goal.returns
-returns c =
-    (apart_other _ _ _ c.if-s-p.false (sym c.is_digit.ensures ∙ c.if-is_digit.false) (sym c.is_letter.ensures ∙ c.if-is_letter.false), (search rules, search rules))
+returns c = (
+  apart_other _ _ _ c.if-s-p.false (sym c.is_digit.ensures ∙ c.if-is_digit.false) (sym c.is_letter.ensures ∙
+      c.if-is_letter.false),
+  (search rules, search rules),
+)

@@ -13,8 +13,11 @@ returns-then-s-p c =
 pub returns-then-is_digit : goal.returns-then-is_digit
 returns-then-is_digit c =
     let d = sym c.is_digit.ensures ∙ c.if-is_digit.true in
-    let q = c.numeral_at.ensures.1 in
-    (c.numeral_at.ensures.0 _ (first-digit _ _ (c.grown-v.ensures.0 d)) ∙ ap (map_read capped) (sym (digits-first _ _ c.if-s-p.false d)), (search rules, search rules))
+    let q = c.numeral_at.ensures.1 in (
+      c.numeral_at.ensures.0 _ (first-digit _ _ (c.grown-v.ensures.0 d)) ∙ ap (map_read capped)
+          (sym (digits-first _ _ c.if-s-p.false d)),
+      (search rules, search rules),
+    )
 
 pub returns : goal.returns
 returns c =

@@ -10,8 +10,11 @@ returns-then-v-eq0 c =
     (λ n e. negative-zero n (sym e ∙ c.if-v-eq0.true), search rules)
 
 pub returns-then-v-le2147483648 : goal.returns-then-v-le2147483648
-returns-then-v-le2147483648 c =
-    (λ n e. ap (λ k. 4294967296 - k) e ∙ negative-small n (λ z. c.if-v-eq0.false (e ∙ z)) (subst (λ k. k ≤ 2147483648) e c.if-v-le2147483648.true), search rules)
+returns-then-v-le2147483648 c = (
+  λ n e. ap (λ k. 4294967296 - k) e ∙ negative-small n (λ z. c.if-v-eq0.false (e ∙ z)) (subst (λ k. k ≤ 2147483648) e
+      c.if-v-le2147483648.true),
+  search rules,
+)
 
 pub returns : goal.returns
 returns c =

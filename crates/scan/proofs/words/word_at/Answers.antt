@@ -9,8 +9,10 @@ returns-then-s-q c =
     (sym (c.loop-k.invariant.0.0 c.loop-k-test.true ∙ word_over _ _ _ c.if-s-q.true), (c.loop-k.invariant.1, c.loop-k.invariant.2))
 
 pub returns-then-s-q-2 : goal.returns-then-s-q-2
-returns-then-s-q-2 c =
-    (sym (c.loop-k.invariant.0.0 c.loop-k-test.true ∙ word-other _ _ _ _ c.loop-k-test.true c.if-s-q.false c.if-s-q-2.true), (c.loop-k.invariant.1, c.loop-k.invariant.2))
+returns-then-s-q-2 c = (
+  sym (c.loop-k.invariant.0.0 c.loop-k-test.true ∙ word-other _ _ _ _ c.loop-k-test.true c.if-s-q.false c.if-s-q-2.true),
+  (c.loop-k.invariant.1, c.loop-k.invariant.2),
+)
 
 pub loop-k-preserved : goal.loop-k-preserved
 loop-k-preserved c =

@@ -1,0 +1,11 @@
+-- What each loop of `lines::registers::registers_ahead` keeps, and what falls.
+use Prim.Native.Nat.{◌-◌}
+use lib.ListN.{length}
+use Rattle.lines.proofs.CountLaws.{Counted}
+use Rattle.lines.proofs.registers.registers_ahead.Given as goal
+
+abbrev pub invariant-loop-t : goal.invariant-loop-t
+invariant-loop-t l = Counted l.s l.p l.n l.q
+
+abbrev pub decreases-loop-t : goal.decreases-loop-t
+decreases-loop-t l = length l.s - l.q

@@ -1,0 +1,22 @@
+-- What the loop over operands keeps, and what falls from call to call.
+use Rattle.std.proofs.Common.{◌+◌, ◌*◌, ◌-◌, length}
+use Rattle.notation.specs.Forms.{arith_form, ops_at, arith_at}
+use Rattle.notation.proofs.ChainLaws.{ChainSoFar}
+use Rattle.notation.proofs.arithmetic.+arith_at_chain_at_factor_at.Given as goal
+
+abbrev pub decreases-arith_at : goal.decreases-arith_at
+decreases-arith_at l = l.depth * 8 + l.level * 2 + 1
+
+abbrev pub decreases-chain_at : goal.decreases-chain_at
+decreases-chain_at l = l.depth * 8 + l.level * 2
+
+abbrev pub decreases-factor_at : goal.decreases-factor_at
+decreases-factor_at l = l.depth * 8
+
+abbrev pub invariant-chain_at-loop-out : goal.invariant-chain_at-loop-out
+invariant-chain_at-loop-out l =
+    ChainSoFar arith_form (ops_at l.level) (arith_at l.depth (l.level - 1)) l.s l.p l.initial.out l.at l.end l.fits l.out
+    l.codes l.count l.q l.e l.f
+
+abbrev pub decreases-chain_at-loop-out : goal.decreases-chain_at-loop-out
+decreases-chain_at-loop-out l = length l.s - l.q

@@ -1,0 +1,8 @@
+-- What the search leaves of `record::act::store`.
+use Rattle.record.proofs.act.Laws.{stores}
+use Rattle.record.proofs.act.store.Goals as goal
+
+pub returns : goal.returns
+returns c =
+    let arg = c.args in
+    λ z h i. stores z arg.x arg.v h c.move_on.result arg.r arg.k i (c.move_on.ensures z)

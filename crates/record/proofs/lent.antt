@@ -1,2 +1,0 @@
--- What the proofs of the functions of `lent` cite.
-pub mod Owned

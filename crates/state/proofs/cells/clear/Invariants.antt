@@ -1,0 +1,15 @@
+-- What each loop of `state::cells::clear` keeps, and what falls.
+use Prim.Native.Nat.{◌≤◌, ◌-◌}
+use mathlib.Core.Path.{◌≡◌}
+use mathlib.Core.List.{◌++◌}
+use lib.ListN.{length, replicate, drop}
+use lib.IntN.{pos}
+use Rattle.state.proofs.cells.clear.Given as goal
+
+abbrev pub invariant-loop-i : goal.invariant-loop-i
+invariant-loop-i l =
+    (l.i ≤ length l.initial.work) × (length l.work ≡ length l.initial.work)
+    × (l.work ≡ replicate l.i (pos 0) ++ drop l.i l.initial.work)
+
+abbrev pub decreases-loop-i : goal.decreases-loop-i
+decreases-loop-i l = length l.initial.work - l.i
