@@ -14,21 +14,21 @@ import re
 import shutil
 import subprocess
 import sys
+import tempfile
 
 TOOLS = os.path.dirname(os.path.abspath(__file__))
 ROOT = os.path.dirname(TOOLS)
 RULES = os.path.join(ROOT, "crates", "rules")
-SCRATCH = os.path.join(ROOT, "target", "try", "rules")
 PER_FILE = 50
 FRONT = 20
 WRONG = 1  # planted in an entry
 MOST_BYTES = 1000
 TOO_LONG = 9
 
-HEAD = """use mathlib.Core.Path.{_≡_, refl}
-use mathlib.Core.List.{[], _∷_}
-use Rattle·rules·specs.specs.Search.{five, answer}
-use Rattle·rules·proofs.proofs.Compute.{every-rule}
+HEAD = """use mathlib.Core.Path.{◌≡◌, refl}
+use mathlib.Core.List.{[], ◌∷◌}
+use Rattle.rules.specs.Search.{five, answer}
+use Rattle.rules.proofs.Compute.{every-rule}
 """
 
 
@@ -61,12 +61,15 @@ def small_sheets(seed, count):
     return list(entries(subprocess.run([program, "small", seed, count], check=True, capture_output=True).stdout))
 
 
-def check(numbered):
+def check(numbered, scratch):
     """Writes the facts and checks them; the checker's success, words and the facts at fault."""
-    proofs = os.path.join(SCRATCH, "proofs")
-    shutil.rmtree(SCRATCH, ignore_errors=True)
-    shutil.copytree(os.path.join(RULES, "specs"), os.path.join(SCRATCH, "specs"))
-    shutil.copytree(os.path.join(RULES, "src"), os.path.join(SCRATCH, "src"))
+    crate = os.path.join(scratch, "crates", "rules")
+    proofs = os.path.join(crate, "proofs")
+    shutil.rmtree(crate, ignore_errors=True)
+    shutil.copytree(os.path.join(RULES, "specs"), os.path.join(crate, "specs"))
+    shutil.copytree(os.path.join(RULES, "src"), os.path.join(crate, "src"))
+    with open(os.path.join(scratch, "crates.txt"), "w", encoding="utf-8") as file:
+        file.write("rules:\n")
     os.makedirs(proofs)
     shutil.copy(os.path.join(RULES, "proofs", "Compute.antt"), proofs)
     modules = ["Compute"]
@@ -86,7 +89,7 @@ def check(numbered):
         modules.append(name)
     with open(os.path.join(proofs, "Lib.antt"), "w", encoding="utf-8") as file:
         file.write("".join(f"pub mod {name}\n" for name in modules))
-    run = subprocess.run(["rt", "check", SCRATCH], capture_output=True, text=True)
+    run = subprocess.run(["rt", "check"], cwd=crate, capture_output=True, text=True)
     words = run.stdout + run.stderr
     faults = {at[name, int(line)] for name, line in re.findall(r"(Try\d+)\.antt:(\d+)", words) if (name, int(line)) in at}
     return run.returncode == 0, words, faults
@@ -104,14 +107,15 @@ def main(arguments):
     sheets = [fact for fact in sheets if last_place(fact) <= MOST_BYTES]
     left = list(enumerate(sheets))
     differ = []
-    while True:
-        proved, words, faults = check(left)
-        if proved:
-            break
-        if not faults:
-            sys.exit(words)
-        differ += sorted(faults)
-        left = [(index, fact) for index, fact in left if index not in faults]
+    with tempfile.TemporaryDirectory() as scratch:
+        while True:
+            proved, words, faults = check(left, scratch)
+            if proved:
+                break
+            if not faults:
+                sys.exit(words)
+            differ += sorted(faults)
+            left = [(index, fact) for index, fact in left if index not in faults]
     for index in differ:
         sheet, length, five = sheets[index]
         print(f"differs: length {length}, oracle {' '.join(map(str, five))}, sheet {sheet.hex().upper()}")

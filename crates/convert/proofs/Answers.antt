@@ -112,11 +112,11 @@ module _ (s work : Bytes) (end room : ℕ) {x : Index} (xi : x ≡ index_of (rea
 
 module _ (s after : Bytes) (target e w st : ℕ) (f : Bool) (h : TextMade s after target (written_of e w st f)) where
   pub made-long : (room : ℕ) → longest_sheet < w → refused_by room (number too_long) 0 ≡ convert room s
-  made-long room l = let i = h.so_far.whole-is in when-long room s h.text h.reads (omega arith)
+  made-long room l = let i = h.so_far.whole_is in when-long room s h.text h.reads (omega arith)
 
   module _ (l : w ≤ longest_sheet) (r : length after ≡ longest_sheet) where
     full : full_length h.text ≤ longest_sheet
-    full = let i = h.so_far.whole-is in omega arith
+    full = let i = h.so_far.whole_is in omega arith
 
     pub end-inside : e ≤ length after
     end-inside = let i = h.so_far.end_is in let j = sheet-smaller h.text in let k = full in omega arith

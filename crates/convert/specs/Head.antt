@@ -1,10 +1,10 @@
 -- What the code reads and writes of the lines `limit`, `budget` and `label`.
-use Rattle.std.specs.Prelude.{◌≡◌, Bool, ◌&&◌, List, [], ◌∷◌, ◌++◌, ℕ, length, drop, if◌then◌else◌}
+use Rattle.std.specs.Prelude.{◌≡◌, Bool, ◌&&◌, List, [], ◌++◌, ℕ, length, drop, if◌then◌else◌}
 use Rattle.rules.specs.Constants.{greatest_limit, greatest_budget}
 use Rattle.rules.specs.Format.{Bytes}
 use Rattle.rules.specs.Program.{Header}
 use Rattle.rules.specs.Encoding.{four, field, encode_header}
-use Rattle.text.specs.Words.{Read, stop, map_read}
+use Rattle.text.specs.Words.{stop, map_read}
 use Rattle.text.specs.Lines.{Started, Text, locks_due, read_lines, read_text}
 use Rattle.text.specs.Convert.{one_to, fits_four, header_numbers_fit, header_fault}
 use Rattle.scan.specs.Writing.{Wrote}
