@@ -8,6 +8,6 @@ use Rattle.label_main.proofs.line_of.Goals as goal
 
 pub returns : goal.returns
 returns c =
-    let arg = c.args in
-    let g = c.well_formed in
-    line-holds (line (answer_of arg.a)) _ (five-length (answer_of arg.a) (omega arith) (omega arith) (omega arith) (omega arith) (omega arith)) c.put_five-length.ensures
+    let a = c.args.a in
+    let short = five-length (answer_of a) (omega arith) (omega arith) (omega arith) (omega arith) (omega arith) in
+    line-holds (line (answer_of a)) _ short c.put_five-length.ensures

@@ -7,4 +7,5 @@ use Rattle.label_main.proofs.printed.Goals as goal
 
 pub returns : goal.returns
 returns c =
-    subst (λ (x : Bytes). Holds x c.line_of.result) (printed-line _ _ _ c.check-a.ensures.follows_the_rules refl) c.line_of.ensures
+    let told = printed-line _ _ _ c.check-a.ensures.follows_the_rules refl in
+    subst (λ (x : Bytes). Holds x c.line_of.result) told c.line_of.ensures
