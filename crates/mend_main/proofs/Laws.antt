@@ -7,7 +7,7 @@ use native.Mathlib.Decide.{dec_le}
 use native.Mathlib.Omega.{arith}
 use lib.ListN.{length, take, drop, get_or, length-drop, length-take}
 use lib.Seq.{drop-cons}
-use Rattle.rules.specs.Base.{Each, nil, ◌&◌}
+use Rattle.rules.specs.Base.{nil, ◌&◌}
 use Rattle.rules.specs.Constants.{longest_sheet}
 use Rattle.rules.specs.Refusal.{too_long}
 use Rattle.rules.specs.Program.{Program}
