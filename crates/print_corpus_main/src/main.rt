@@ -69,7 +69,9 @@ fn ended(mut t: Tally) -> Tally {
 }
 
 // One entry more. One that the corpus does not hold whole ends the reading.
-fn compare_entry(rt: HostRuntime, t: Tally,
+fn compare_entry(
+    rt: HostRuntime,
+    t: Tally,
     sheet: &mut [u8],
     stated: &mut [u8],
     text: &mut [u8],
@@ -96,7 +98,9 @@ fn compare_entry(rt: HostRuntime, t: Tally,
     added(t, v, f.planted)
 }
 
-fn compare_all(rt: HostRuntime, count: u64,
+fn compare_all(
+    rt: HostRuntime,
+    count: u64,
     sheet: &mut [u8],
     stated: &mut [u8],
     text: &mut [u8],
@@ -138,7 +142,9 @@ fn main(rt: HostRuntime) {
     put(rt, t.differ, b" differ; ");
     put(rt, t.printed, b" printed, ");
     put(rt, t.back, b" came back, ");
-    put(rt, t.less,
+    put(
+        rt,
+        t.less,
         b" refused with a byte less; noticed of what is planted: ",
     );
     put(rt, t.numbers_noticed, b" of ");

@@ -60,7 +60,13 @@ fn ended(mut t: Tally) -> Tally {
 }
 
 // One entry more. One that the corpus does not hold whole ends the reading.
-fn compare_entry(rt: HostRuntime, t: Tally, text: &mut [u8], stated: &mut [u8], sheet: &mut [u8]) -> Tally {
+fn compare_entry(
+    rt: HostRuntime,
+    t: Tally,
+    text: &mut [u8],
+    stated: &mut [u8],
+    sheet: &mut [u8],
+) -> Tally {
     let mut front = [0u8; FRONT];
     if read_full(&mut rt.stdin(), &mut front) < FRONT {
         return ended(t);
@@ -81,7 +87,13 @@ fn compare_entry(rt: HostRuntime, t: Tally, text: &mut [u8], stated: &mut [u8], 
     added(t, v, f.planted)
 }
 
-fn compare_all(rt: HostRuntime, count: u64, text: &mut [u8], stated: &mut [u8], sheet: &mut [u8]) -> Tally {
+fn compare_all(
+    rt: HostRuntime,
+    count: u64,
+    text: &mut [u8],
+    stated: &mut [u8],
+    sheet: &mut [u8],
+) -> Tally {
     let mut t = Tally {
         texts: 0,
         differ: 0,

@@ -16,10 +16,12 @@ pub returns-then-sheet-end : goal.returns-then-sheet-end
 returns-then-sheet-end c =
     let arg = c.args in
     let s = arg.text.now in
-    λ t r le te. c.refuse.ensures ∙ ap (λ (k : ℕ). refused_by (length arg.sheet.now) k 0) c.number_of.ensures ∙ judged-full s arg.work.now arg.end (length arg.sheet.now) c.read_sheet-x.ensures c.if-refusal-ne0.false c.if-sheet-end.true t r le te
+    λ t r le te. c.refuse.ensures ∙ ap (λ (k : ℕ). refused_by (length arg.sheet.now) k 0) c.number_of.ensures
+    ∙ judged-full s arg.work.now arg.end (length arg.sheet.now) c.read_sheet-x.ensures c.if-refusal-ne0.false c.if-sheet-end.true t r le te
 
 pub returns : goal.returns
 returns c =
     let arg = c.args in
     let s = arg.text.now in
-    λ t r le te. c.fill.ensures ∙ judged-good s arg.work.now arg.end (length arg.sheet.now) c.read_sheet-x.ensures c.if-refusal-ne0.false c.if-sheet-end.false t r le te
+    λ t r le te. c.fill.ensures
+    ∙ judged-good s arg.work.now arg.end (length arg.sheet.now) c.read_sheet-x.ensures c.if-refusal-ne0.false c.if-sheet-end.false t r le te

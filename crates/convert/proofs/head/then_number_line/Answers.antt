@@ -11,4 +11,6 @@ returns-clause-result_value c =
     let w = c.then_word-w.ensures in
     let n = c.then_end-n.ensures in
     let e = c.then_line_end.ensures in
-    e.result_value ∙ ap (λ g. then_read g line_end) (n.result_value ∙ ap (λ g. then_read g (λ _ t. map_read capped (number t))) w.result_value) ∙ line-behind capped arg.word.now number (read_of unit arg.s.now arg.x)
+    e.result_value
+    ∙ ap (λ g. then_read g line_end) (n.result_value ∙ ap (λ g. then_read g (λ _ t. map_read capped (number t))) w.result_value)
+    ∙ line-behind capped arg.word.now number (read_of unit arg.s.now arg.x)

@@ -9,7 +9,8 @@ returns-then-target-to-clause-so_far c =
     let k₁ = c.closed-put.ensures in
     let k₂ = c.past-to.ensures in
     let k₃ = c.past-whole.ensures in
-    λ xs x h es e ln sd. more xs x arg.out.now arg.target arg.w h sm e ln sd k₁.value k₁.out_after k₂ k₃ (aims-here xs x arg.out.now arg.target arg.w h sm e es ln k₁.value k₂ c.if-from-target.true c.if-target-to.true)
+    λ xs x h es e ln sd. more xs x arg.out.now arg.target arg.w h sm e ln sd k₁.value k₁.out_after k₂ k₃
+    (aims-here xs x arg.out.now arg.target arg.w h sm e es ln k₁.value k₂ c.if-from-target.true c.if-target-to.true)
 
 pub returns-else-target-to-clause-so_far : goal.returns-else-target-to-clause-so_far
 returns-else-target-to-clause-so_far c =
@@ -18,7 +19,8 @@ returns-else-target-to-clause-so_far c =
     let k₁ = c.closed-put.ensures in
     let k₂ = c.past-to.ensures in
     let k₃ = c.past-whole.ensures in
-    λ xs x h es e ln sd. more xs x arg.out.now arg.target arg.w h sm e ln sd k₁.value k₁.out_after k₂ k₃ (aims-past xs x arg.out.now arg.target arg.w h sm e es ln k₁.value k₂ c.if-target-to.false)
+    λ xs x h es e ln sd. more xs x arg.out.now arg.target arg.w h sm e ln sd k₁.value k₁.out_after k₂ k₃
+    (aims-past xs x arg.out.now arg.target arg.w h sm e es ln k₁.value k₂ c.if-target-to.false)
 
 pub returns-else-from-target-clause-so_far : goal.returns-else-from-target-clause-so_far
 returns-else-from-target-clause-so_far c =
@@ -27,4 +29,5 @@ returns-else-from-target-clause-so_far c =
     let k₁ = c.closed-put.ensures in
     let k₂ = c.past-to.ensures in
     let k₃ = c.past-whole.ensures in
-    λ xs x h es e ln sd. more xs x arg.out.now arg.target arg.w h sm e ln sd k₁.value k₁.out_after k₂ k₃ (aims-before xs x arg.out.now arg.target arg.w h sm e es ln k₁.value k₂ c.if-from-target.false)
+    λ xs x h es e ln sd. more xs x arg.out.now arg.target arg.w h sm e ln sd k₁.value k₁.out_after k₂ k₃
+    (aims-before xs x arg.out.now arg.target arg.w h sm e es ln k₁.value k₂ c.if-from-target.false)

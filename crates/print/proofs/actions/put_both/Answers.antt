@@ -7,4 +7,5 @@ use Rattle.print.proofs.actions.put_both.Goals as goal
 pub returns : goal.returns
 returns c =
     let arg = c.args in
-    same_text _ _ _ _ _ _ (append_assoc arg.first.now (decimal arg.n) (arg.second.now ++ decimal arg.m)) (then-writes _ _ _ _ _ _ _ _ c.put_named-at.ensures c.put_named.ensures)
+    same_text _ _ _ _ _ _ (append_assoc arg.first.now (decimal arg.n) (arg.second.now ++ decimal arg.m))
+    (then-writes _ _ _ _ _ _ _ _ c.put_named-at.ensures c.put_named.ensures)

@@ -8,8 +8,12 @@ use Rattle.print.proofs.rows.print_ranges.Goals as goal
 pub loop-left-preserved : goal.loop-left-preserved
 loop-left-preserved c =
     let arg = c.args in
-    let at = c.loop-left in
-    (search rules, omega arith, at.invariant.2 ∙ ranges-turn arg.word.now arg.s.now at.p at.left _ _ _ _ c.loop-left-test.true c.print_range-at.ensures)
+    let at = c.loop-left in (
+      search rules,
+      omega arith,
+      at.invariant.2
+          ∙ ranges-turn arg.word.now arg.s.now at.p at.left _ _ _ _ c.loop-left-test.true c.print_range-at.ensures,
+    )
 
 pub returns : goal.returns
 returns c =

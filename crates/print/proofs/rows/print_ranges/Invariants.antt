@@ -9,7 +9,10 @@ use Rattle.print.specs.Texts.{range_text}
 use Rattle.print.proofs.rows.print_ranges.Given as goal
 
 abbrev pub invariant-loop-left : goal.invariant-loop-left
-invariant-loop-left l = (length l.out ≡ length l.initial.out) × (l.p + 11 * l.left ≤ length l.s) × (write (in_row (range_text l.word) (ranges l.s l.place l.n)) (out_of l.initial.out l.from) ≡ write (in_row (range_text l.word) (ranges l.s l.p l.left)) (out_of l.out l.at))
+invariant-loop-left l =
+    (length l.out ≡ length l.initial.out) × (l.p + 11 * l.left ≤ length l.s)
+    × (write (in_row (range_text l.word) (ranges l.s l.place l.n)) (out_of l.initial.out l.from)
+    ≡ write (in_row (range_text l.word) (ranges l.s l.p l.left)) (out_of l.out l.at))
 
 abbrev pub decreases-loop-left : goal.decreases-loop-left
 decreases-loop-left l = l.left

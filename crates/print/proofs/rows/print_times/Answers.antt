@@ -10,4 +10,5 @@ returns-then-halts c =
 pub returns : goal.returns
 returns c =
     let arg = c.args in
-    same_text _ _ _ _ _ _ (times-some arg.halts arg.least arg.greatest c.if-halts.false) (then-writes _ _ _ _ _ _ _ _ c.put_decimal-first.ensures (then-writes _ _ _ _ _ _ _ _ c.put_named-second.ensures c.put.ensures))
+    same_text _ _ _ _ _ _ (times-some arg.halts arg.least arg.greatest c.if-halts.false)
+    (then-writes _ _ _ _ _ _ _ _ c.put_decimal-first.ensures (then-writes _ _ _ _ _ _ _ _ c.put_named-second.ensures c.put.ensures))

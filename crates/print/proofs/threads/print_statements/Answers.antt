@@ -36,8 +36,13 @@ loop-k-preserved c =
     let k = c.loop-k.k in
     let more = c.loop-k-test.true in
     let count = count_is arg.s.now arg.index w arg.t r in
-    let told = c.print_statement-at.ensures _ _ (place_is arg.s.now arg.index w arg.t r k more) (stands arg.s.now arg.index w arg.t r k more) in
-    (search rules, omega arith, c.loop-k.invariant.2 ∙ row-turn statement_text no_statement (thread_in (program_in arg.s.now) arg.t).statements k _ _ _ _ (omega arith) told)
+    let told = c.print_statement-at.ensures _ _ (place_is arg.s.now arg.index w arg.t r k more)
+    (stands arg.s.now arg.index w arg.t r k more) in (
+      search rules,
+      omega arith,
+      c.loop-k.invariant.2
+          ∙ row-turn statement_text no_statement (thread_in (program_in arg.s.now) arg.t).statements k _ _ _ _ (omega arith) told,
+    )
 
 pub returns : goal.returns
 returns c =

@@ -9,7 +9,10 @@ use Rattle.print.specs.Texts.{statement_text}
 use Rattle.print.proofs.threads.print_statements.Given as goal
 
 abbrev pub invariant-loop-k : goal.invariant-loop-k
-invariant-loop-k l = (length l.out ≡ length l.initial.out) × (l.k ≤ l.n) × (write (in_row statement_text (thread_in (program_in l.s) l.t).statements) (out_of l.initial.out l.from) ≡ write (in_row statement_text (drop l.k (thread_in (program_in l.s) l.t).statements)) (out_of l.out l.at))
+invariant-loop-k l =
+    (length l.out ≡ length l.initial.out) × (l.k ≤ l.n)
+    × (write (in_row statement_text (thread_in (program_in l.s) l.t).statements) (out_of l.initial.out l.from)
+    ≡ write (in_row statement_text (drop l.k (thread_in (program_in l.s) l.t).statements)) (out_of l.out l.at))
 
 abbrev pub decreases-loop-k : goal.decreases-loop-k
 decreases-loop-k l = l.n - l.k

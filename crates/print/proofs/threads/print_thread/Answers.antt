@@ -21,4 +21,6 @@ print_ranges-second-requires c =
 pub returns : goal.returns
 returns c =
     let arg = c.args in
-    same_text _ _ _ _ _ _ (thread-whole arg.s.now arg.index c.requires.0 arg.t c.requires.1) (then-writes _ _ _ _ _ _ _ _ c.put_bytes-first.ensures (then-writes _ _ _ _ _ _ _ _ c.print_ranges-second.ensures c.print_statements.ensures))
+    same_text _ _ _ _ _ _ (thread-whole arg.s.now arg.index c.requires.0 arg.t c.requires.1)
+    (then-writes _ _ _ _ _ _ _ _ c.put_bytes-first.ensures
+    (then-writes _ _ _ _ _ _ _ _ c.print_ranges-second.ensures c.print_statements.ensures))

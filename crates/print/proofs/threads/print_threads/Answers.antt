@@ -11,8 +11,12 @@ pub loop-t-preserved : goal.loop-t-preserved
 loop-t-preserved c =
     let s = c.args.s.now in
     let count = (index_is s c.args.index c.requires).threads in
-    let more = c.loop-t-test.true in
-    (search rules, omega arith, c.loop-t.invariant.2 ∙ row-turn thread_text no_thread (program_in s).threads c.loop-t.t _ _ _ _ (omega arith) c.print_thread-at.ensures)
+    let more = c.loop-t-test.true in (
+      search rules,
+      omega arith,
+      c.loop-t.invariant.2
+          ∙ row-turn thread_text no_thread (program_in s).threads c.loop-t.t _ _ _ _ (omega arith) c.print_thread-at.ensures,
+    )
 
 pub returns : goal.returns
 returns c =

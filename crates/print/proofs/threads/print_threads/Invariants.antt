@@ -9,7 +9,10 @@ use Rattle.print.specs.Texts.{thread_text}
 use Rattle.print.proofs.threads.print_threads.Given as goal
 
 abbrev pub invariant-loop-t : goal.invariant-loop-t
-invariant-loop-t l = (length l.out ≡ length l.initial.out) × (l.t ≤ l.n) × (write (in_row thread_text (program_in l.s).threads) (out_of l.initial.out l.from) ≡ write (in_row thread_text (drop l.t (program_in l.s).threads)) (out_of l.out l.at))
+invariant-loop-t l =
+    (length l.out ≡ length l.initial.out) × (l.t ≤ l.n)
+    × (write (in_row thread_text (program_in l.s).threads) (out_of l.initial.out l.from)
+    ≡ write (in_row thread_text (drop l.t (program_in l.s).threads)) (out_of l.out l.at))
 
 abbrev pub decreases-loop-t : goal.decreases-loop-t
 decreases-loop-t l = l.n - l.t

@@ -9,4 +9,6 @@ print_ranges-threads-requires c = variables-room c.args.sheet.now c.args.index c
 
 pub returns : goal.returns
 returns c =
-    same_text _ _ _ _ _ _ (program-text c.args.sheet.now c.args.index c.requires) (then-writes _ _ _ _ _ _ _ _ c.print_head-variables.ensures (then-writes _ _ _ _ _ _ _ _ c.print_ranges-threads.ensures c.print_threads.ensures))
+    same_text _ _ _ _ _ _ (program-text c.args.sheet.now c.args.index c.requires)
+    (then-writes _ _ _ _ _ _ _ _ c.print_head-variables.ensures
+    (then-writes _ _ _ _ _ _ _ _ c.print_ranges-threads.ensures c.print_threads.ensures))
