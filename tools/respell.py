@@ -6,7 +6,8 @@ usage: respell.py [FOLDER]        FOLDER holds crates/, README.md and docs/ (def
 Two rules, for every name that this repository declares and the library does not:
 - a word in camel case becomes snake case: atFront -> at_front, leZ-of -> le_z-of. Types and modules keep theirs.
 - a dash in a name of specs/, or in a field or a constructor, becomes an underscore. In lemmas the dash stays, as in the library.
-It writes .antt, .rt, .edit and the pages of docs/ in place, and stops where two names would fall together. A second run changes nothing.
+It writes .antt, .rt, .edit and the pages of docs/ in place, and prints a line 'look:' where something else has the new name already.
+Run once, in the port (docs/PORT.md); a second run changes nothing.
 """
 import os
 import re
