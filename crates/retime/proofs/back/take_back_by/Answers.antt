@@ -19,21 +19,24 @@ returns-then-shows c =
     let s = c.args.sheet.now in
     let d = change_of c.args.change in
     let w = found-there s c.requires.0 c.requires.1 d.thread d.statement c.find-f.ensures c.if-f.true in
-    found_back s d w (sym c.may_have.ensures ∙ c.if-may_have.true) (sym c.shows.ensures ∙ c.if-shows.true) c.write_times.ensures c.answered.ensures
+    found_back s d w (sym c.may_have.ensures ∙ c.if-may_have.true)
+    (sym c.shows.ensures ∙ c.if-shows.true) c.write_times.ensures c.answered.ensures
 
 pub returns-then-may_have : goal.returns-then-may_have
 returns-then-may_have c =
     let s = c.args.sheet.now in
     let d = change_of c.args.change in
     let w = found-there s c.requires.0 c.requires.1 d.thread d.statement c.find-f.ensures c.if-f.true in
-    back-given s d (found-since s d w (sym c.may_have.ensures ∙ c.if-may_have.true) (sym c.shows.ensures ∙ c.if-shows.false)) c.number_of-number.ensures c.answered-then-may_have.ensures
+    back-given s d (found-since s d w (sym c.may_have.ensures ∙ c.if-may_have.true) (sym c.shows.ensures ∙ c.if-shows.false))
+    c.number_of-number.ensures c.answered-then-may_have.ensures
 
 pub returns-then-f : goal.returns-then-f
 returns-then-f c =
     let s = c.args.sheet.now in
     let d = change_of c.args.change in
     let w = found-there s c.requires.0 c.requires.1 d.thread d.statement c.find-f.ensures c.if-f.true in
-    back-given s d (found-off s d w (sym c.may_have.ensures ∙ c.if-may_have.false)) c.number_of-number-then-f.ensures c.answered-then-f.ensures
+    back-given s d (found-off s d w (sym c.may_have.ensures ∙ c.if-may_have.false)) c.number_of-number-then-f.ensures
+    c.answered-then-f.ensures
 
 pub returns : goal.returns
 returns c =

@@ -28,4 +28,5 @@ pub returns : goal.returns
 returns c =
     let arg = c.args in
     let (g, e, r, n) = found_none arg.sheet.now c.requires.0 c.requires.1 arg.thread arg.statement c.find-f.ensures c.if-f.false in
-    given-refused arg.sheet.now arg.thread arg.statement arg.least arg.greatest (statement-absent arg.sheet.now arg.thread arg.statement _ g e r n) c.number_of-number-2.ensures c.refused-2.ensures
+    given-refused arg.sheet.now arg.thread arg.statement arg.least arg.greatest
+    (statement-absent arg.sheet.now arg.thread arg.statement _ g e r n) c.number_of-number-2.ensures c.refused-2.ensures

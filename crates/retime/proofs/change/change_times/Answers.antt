@@ -27,7 +27,8 @@ returns-clause-sheet_after c =
     let arg = c.args in
     let o = all-below arg.sheet.now (λ p. search rules) in
     let (q, e, n) = rejected (read_sheet arg.sheet.now) c.read_sheet-index.ensures c.if-index-eq0.false in
-    given-refused arg.sheet.now arg.thread arg.statement arg.least arg.greatest (sheet-unread arg.sheet.now arg.thread arg.statement _ e) (sym n) c.refused.ensures
+    given-refused arg.sheet.now arg.thread arg.statement arg.least arg.greatest (sheet-unread arg.sheet.now arg.thread arg.statement _ e)
+    (sym n) c.refused.ensures
 
 pub returns-clause-reads_retimed : goal.returns-clause-reads_retimed
 returns-clause-reads_retimed c =

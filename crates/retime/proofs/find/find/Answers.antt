@@ -23,7 +23,8 @@ bounds-index-thread c =
 pub returns-then-count-statement : goal.returns-then-count-statement
 returns-then-count-statement c =
     let arg = c.args in
-    no-statement arg.sheet.now c.requires.0 arg.thread arg.statement c.if-index-thread.false c.if-count-statement.true c.none-then-count-statement.ensures
+    no-statement arg.sheet.now c.requires.0 arg.thread arg.statement c.if-index-thread.false c.if-count-statement.true
+    c.none-then-count-statement.ensures
 
 pub bounds-index-i : goal.bounds-index-i
 bounds-index-i c =

@@ -32,4 +32,6 @@ unfolding preview
 returns-clause-holds_retimed c =
     let arg = c.args in
     let same = c.preview_answer-a.ensures in
-    λ z. subst (HoldsRetimed arg.sheet.now arg.thread arg.statement arg.least arg.greatest) (sym same) (accepted-preview arg.sheet.now (length arg.copy.now) (length arg.work.now) arg.thread arg.statement arg.least arg.greatest (sym (ap (λ (x : Answer). x.refusal) same) ∙ z))
+    λ z. subst (HoldsRetimed arg.sheet.now arg.thread arg.statement arg.least arg.greatest) (sym same)
+    (accepted-preview arg.sheet.now (length arg.copy.now) (length arg.work.now) arg.thread arg.statement arg.least arg.greatest
+    (sym (ap (λ (x : Answer). x.refusal) same) ∙ z))

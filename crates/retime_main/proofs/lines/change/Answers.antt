@@ -28,4 +28,5 @@ returns-clause-upper_bound c =
     let same : length c.change_times-c.new.sheet ≡ length a.sheet.now = search rules in
     let pre = c.requires in
     let w = then-writes _ _ _ _ _ _ _ _ c.put_line-end.ensures c.put_sheet.ensures in
-    text-fits _ (omega arith & omega arith & omega arith & omega arith & omega arith & omega arith & omega arith & omega arith & nil) (omega arith) _ _ (omega (arith, pre.0)) _ _ _ pre.1 w
+    text-fits _ (omega arith & omega arith & omega arith & omega arith & omega arith & omega arith & omega arith & omega arith & nil)
+    (omega arith) _ _ (omega (arith, pre.0)) _ _ _ pre.1 w
