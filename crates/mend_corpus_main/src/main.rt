@@ -98,7 +98,9 @@ fn ended(mut t: Tally) -> Tally {
 }
 
 // One entry more. One that the corpus does not hold whole ends the reading.
-fn compare_entry(rt: HostRuntime, t: Tally,
+fn compare_entry(
+    rt: HostRuntime,
+    t: Tally,
     sheet: &mut [u8],
     stated: &mut [u8],
     mended: &mut [u8],
@@ -124,7 +126,9 @@ fn compare_entry(rt: HostRuntime, t: Tally,
     ended(t)
 }
 
-fn compare_all(rt: HostRuntime, count: u64,
+fn compare_all(
+    rt: HostRuntime,
+    count: u64,
     sheet: &mut [u8],
     stated: &mut [u8],
     mended: &mut [u8],
