@@ -67,18 +67,15 @@ def newest(name):
 
 def prove(name):
     """Has rt prove and build the program, and shows what it says of each crate. It runs it too, on nothing."""
-    try:
-        rt = subprocess.Popen(
-            ["rt", "run"],
-            cwd=os.path.join(ROOT, "crates", name),
-            stdin=subprocess.DEVNULL,
-            stdout=subprocess.PIPE,
-            stderr=subprocess.STDOUT,
-        )
-    except FileNotFoundError as error:
-        if error.filename != "rt":
-            raise
-        raise CannotRun(f"{name} has to be built, and there is no rt, the Rattle kit's command, in PATH") from None
+    if shutil.which("rt") is None:
+        raise CannotRun(f"{name} has to be built, and there is no rt, the Rattle kit's command, in PATH")
+    rt = subprocess.Popen(
+        ["rt", "run"],
+        cwd=os.path.join(ROOT, "crates", name),
+        stdin=subprocess.DEVNULL,
+        stdout=subprocess.PIPE,
+        stderr=subprocess.STDOUT,
+    )
     say(f"proving and building {name} with rt: some minutes the first time, then only after a change")
     with rt:
         for line in rt.stdout:
