@@ -1,5 +1,6 @@
-// What is told on standard error: a name, a colon and a reason.
-ghost use Rattle.std.specs.Prelude.{◌≡◌, ◌≤◌, length};
+// What is told on standard error: a name, a colon and a reason. No contract can say what stands there: it is named as free.
+ghost use Rattle.std.specs.Prelude.{◌≤◌, length};
+ghost use Rattle.rules.specs.Base.{Free};
 
 use std::io::{Error, Print, Write};
 
@@ -10,7 +11,9 @@ const MOST_OF_REASON: usize = 320;
 const BEHIND: &[u8] = b" (os error ";
 
 // A line of a name and a reason.
-pub fn tell_bytes(rt: HostRuntime, what: &[u8], reason: &[u8]) {
+pub fn tell_bytes(rt: HostRuntime, what: &[u8], reason: &[u8])
+    ensures { Free result }
+{
     let out = rt.stderr();
     let _ = Print::write_all(&out, what);
     let _ = Print::write_all(&out, b": ");
@@ -40,7 +43,10 @@ fn words_in(text: &[u8]) -> usize
     text.len()
 }
 
-pub fn tell(rt: HostRuntime, what: &[u8], e: Error) {
+// A line of a name and the system's reason for an error.
+pub fn tell(rt: HostRuntime, what: &[u8], e: Error)
+    ensures { Free result }
+{
     let mut text = [0u8; MOST_OF_REASON];
     let n = put_reason(e, &mut text);
     let reason = &text[..n];
