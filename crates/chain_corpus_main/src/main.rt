@@ -11,20 +11,37 @@ mod step;
 
 use crate::calls::{Verdict, compare_step};
 use crate::step::{BYTES, step_of};
-use corpus::{both, copy_bytes, counted, four, put, read_front, wide};
+use corpus::{copy_bytes, counted, four, over_entries, put, read_front};
 use files::read_full;
+use std::io::Read;
 
 // Bytes of a sheet at most.
 const ROOM: usize = 20000;
 
-// What is planted in a chain: one of its numbers is wrong, or what a step makes of the sheet.
-const WRONG_NUMBER: u64 = 1;
+// What is planted in a chain: one of its numbers is wrong, or what a step makes of the sheet. No corpus has another number there; it would
+// count for nothing.
+#[derive(Clone, Copy, PartialEq, Eq)]
+enum Planted {
+    Nothing,
+    WrongNumber,
+    WrongSheet,
+    Unknown,
+}
 
-const WRONG_SHEET: u64 = 2;
+impl From<u8> for Planted {
+    fn from(n: u8) -> Planted {
+        match n {
+            0 => Planted::Nothing,
+            1 => Planted::WrongNumber,
+            2 => Planted::WrongSheet,
+            _ => Planted::Unknown,
+        }
+    }
+}
 
 // How many chains are right, their steps, and how many of these chains differ; how many have a wrong number or a wrong sheet, and how many
-// of these were noticed; and whether the reading ended before the last.
-#[derive(Clone, Copy)]
+// of these were noticed.
+#[derive(Clone, Copy, Default)]
 struct Tally {
     chains: u64,
     steps: u64,
@@ -33,146 +50,91 @@ struct Tally {
     numbers_noticed: u64,
     sheets: u64,
     sheets_noticed: u64,
-    ended: bool,
 }
 
-fn not_read() -> Verdict {
-    Verdict {
-        read: false,
-        numbers: false,
-        sheet: false,
-        steps: 0,
-    }
-}
-
-// One step more. One that the corpus does not hold whole ends the chain.
-fn compare_next(rt: HostRuntime, v: Verdict, sheet: &mut [u8], stated: &mut [u8]) -> Verdict {
+// One step more; none where the corpus does not hold it whole.
+fn compare_next<R: Read>(
+    from: &mut R,
+    v: Verdict,
+    sheet: &mut [u8],
+    stated: &mut [u8],
+) -> Option<Verdict> {
     let mut bytes = [0u8; BYTES];
-    if read_full(&mut rt.stdin(), &mut bytes) < BYTES {
-        return not_read();
+    if read_full(from, &mut bytes) < BYTES {
+        return None;
     }
-    compare_step(v, step_of(&bytes), sheet, stated)
+    Some(compare_step(v, step_of(&bytes), sheet, stated))
 }
 
 // So many steps of a chain, one after another in the same sheet; so many were compared before. The second buffer holds what the sheet
 // is to be.
-fn compare_chain(
-    rt: HostRuntime,
+fn compare_chain<R: Read>(
+    from: &mut R,
     count: u64,
     before: u64,
     sheet: &mut [u8],
     stated: &mut [u8],
-) -> Verdict {
+) -> Option<Verdict> {
+    if !copy_bytes(sheet, stated) {
+        return None;
+    }
     let mut v = Verdict {
-        read: copy_bytes(sheet, stated),
         numbers: true,
         sheet: true,
         steps: before,
     };
     for _ in 0..count {
-        if !v.read {
-            return v;
-        }
-        v = compare_next(rt, v, sheet, stated);
+        v = compare_next(from, v, sheet, stated)?;
     }
-    v
+    Some(v)
 }
 
-// Lends the front of both buffers.
-fn lend_sheet(
-    rt: HostRuntime,
-    n: usize,
-    count: u64,
-    before: u64,
-    sheet: &mut [u8],
-    stated: &mut [u8],
-) -> Verdict {
-    if sheet.len() < n {
-        return not_read();
-    }
-    if stated.len() < n {
-        return not_read();
-    }
-    compare_chain(rt, count, before, &mut sheet[..n], &mut stated[..n])
-}
-
-// The first where the fact holds, else the second.
-fn chosen(fact: bool, a: u64, b: u64) -> u64 {
-    if fact {
-        return a;
-    }
-    b
-}
-
-fn added(t: Tally, v: Verdict, planted: u64) -> Tally {
-    let right = planted == 0;
-    let number = planted == WRONG_NUMBER;
-    let sheet = planted == WRONG_SHEET;
+fn added(t: Tally, v: Verdict, planted: Planted) -> Tally {
+    let right = planted == Planted::Nothing;
+    let number = planted == Planted::WrongNumber;
+    let sheet = planted == Planted::WrongSheet;
     Tally {
         chains: counted(t.chains, right),
-        steps: chosen(right, v.steps, t.steps),
-        differ: counted(t.differ, both(right, !both(v.numbers, v.sheet))),
+        steps: if right { v.steps } else { t.steps },
+        differ: counted(t.differ, right && !(v.numbers && v.sheet)),
         numbers: counted(t.numbers, number),
-        numbers_noticed: counted(t.numbers_noticed, both(number, both(!v.numbers, v.sheet))),
+        numbers_noticed: counted(t.numbers_noticed, number && !v.numbers && v.sheet),
         sheets: counted(t.sheets, sheet),
-        sheets_noticed: counted(t.sheets_noticed, both(sheet, both(v.numbers, !v.sheet))),
-        ended: t.ended,
+        sheets_noticed: counted(t.sheets_noticed, sheet && v.numbers && !v.sheet),
     }
 }
 
-fn ended(mut t: Tally) -> Tally {
-    t.ended = true;
-    t
-}
-
-// One chain more. One that the corpus does not hold whole ends the reading.
-fn compare_entry(rt: HostRuntime, t: Tally, sheet: &mut [u8], stated: &mut [u8]) -> Tally {
+// One chain more, its sheet at the front of both buffers; none where the corpus does not hold it whole.
+fn compare_entry<R: Read>(
+    from: &mut R,
+    t: Tally,
+    sheet: &mut [u8],
+    stated: &mut [u8],
+) -> Option<Tally> {
     let mut front = [0u8; 9];
-    if read_full(&mut rt.stdin(), &mut front) < 9 {
-        return ended(t);
+    if read_full(from, &mut front) < 9 {
+        return None;
     }
-    let planted = wide(front[0]);
     let n = four(front[1], front[2], front[3], front[4]) as usize;
     let steps = four(front[5], front[6], front[7], front[8]) / (BYTES as u64);
-    if !read_front(&mut rt.stdin(), sheet, n) {
-        return ended(t);
+    if !read_front(from, sheet, n) {
+        return None;
     }
-    let v = lend_sheet(rt, n, steps, t.steps, sheet, stated);
-    if v.read {
-        return added(t, v, planted);
-    }
-    ended(t)
-}
-
-fn compare_all(rt: HostRuntime, count: u64, sheet: &mut [u8], stated: &mut [u8]) -> Tally {
-    let mut t = Tally {
-        chains: 0,
-        steps: 0,
-        differ: 0,
-        numbers: 0,
-        numbers_noticed: 0,
-        sheets: 0,
-        sheets_noticed: 0,
-        ended: false,
-    };
-    for _ in 0..count {
-        if t.ended {
-            return t;
-        }
-        t = compare_entry(rt, t, sheet, stated);
-    }
-    t
+    let sheet = sheet.get_mut(..n)?;
+    let stated = stated.get_mut(..n)?;
+    let v = compare_chain(from, steps, t.steps, sheet, stated)?;
+    Some(added(t, v, Planted::from(front[0])))
 }
 
 fn main(rt: HostRuntime) {
-    let mut count = [0u8; 4];
-    if read_full(&mut rt.stdin(), &mut count) < 4 {
-        return;
-    }
     let mut sheet = [0u8; ROOM];
     let mut stated = [0u8; ROOM];
-    let n = four(count[0], count[1], count[2], count[3]);
-    let t = compare_all(rt, n, &mut sheet, &mut stated);
+    let tally = over_entries(&mut rt.stdin(), Tally::default(), |from, t| {
+        compare_entry(from, t, &mut sheet, &mut stated)
+    });
+    let Some(t) = tally else {
+        return;
+    };
     put(rt, t.chains, b" chains of ");
     put(rt, t.steps, b" steps compared, ");
     put(rt, t.differ, b" differ; noticed of what is planted: ");

@@ -1,45 +1,44 @@
 // A step of a chain as the corpus has it.
 ghost use Rattle.std.specs.Prelude.{◌+◌, ◌≤◌};
 
-use corpus::{eight, two, wide};
-use retime::Change;
+use corpus::two;
+use retime::{Asked, Change};
 
 // Bytes of a step.
 pub(crate) const BYTES: usize = 107;
 
-// What is asked: of a change its thread, its statement and its times, least and greatest, in the places of the old ones; of a change
-// taken back all of it. Then what is stated of the answer, and which bytes, `count` of four, the sheet has from `at` on after the step.
+// What a step does to the sheet: new times, a change taken back, or bytes that someone else writes.
+#[derive(Clone, Copy)]
+pub(crate) enum Call {
+    ChangeTimes(Asked),
+    TakeBack(Change),
+    Write,
+}
+
+// The call, and what is stated of its answer; then which bytes, `count` of four, the sheet has from `at` on after the step.
 #[derive(Clone, Copy)]
 pub(crate) struct Step {
-    pub(crate) kind: u64,
-    pub(crate) asked: Change,
-    pub(crate) refusal: u64,
-    pub(crate) place: u64,
+    pub(crate) call: Call,
+    pub(crate) refusal: u32,
+    pub(crate) place: usize,
     pub(crate) did: Change,
-    pub(crate) at: u16,
+    pub(crate) at: usize,
     pub(crate) count: usize,
     pub(crate) bytes: [u8; 4],
 }
 
 // The number in the eight bytes from this place on.
 fn eight_at(b: &[u8; BYTES], at: usize) -> u64
-    requires { at + 8 ≤ 107 }
+    requires { at + 8 ≤ BYTES }
 {
-    eight(
-        b[at],
-        b[at + 1],
-        b[at + 2],
-        b[at + 3],
-        b[at + 4],
-        b[at + 5],
-        b[at + 6],
-        b[at + 7],
-    )
+    let mut bytes = [0u8; 8];
+    bytes.copy_from_slice(&b[at..at + 8]);
+    u64::from_be_bytes(bytes)
 }
 
 // The six numbers from this place on.
 fn change_at(b: &[u8; BYTES], at: usize) -> Change
-    requires { at + 48 ≤ 107 }
+    requires { at + 48 ≤ BYTES }
 {
     Change {
         thread: eight_at(b, at) as usize,
@@ -51,17 +50,29 @@ fn change_at(b: &[u8; BYTES], at: usize) -> Change
     }
 }
 
+// Of a change its thread, its statement and its times are given, least and greatest, in the places of the old ones; of a change taken
+// back all of it.
+fn call_of(kind: u8, given: Change) -> Call {
+    match kind {
+        0 => Call::ChangeTimes(Asked {
+            thread: given.thread,
+            statement: given.statement,
+            least: given.old_least,
+            greatest: given.old_greatest,
+        }),
+        1 => Call::TakeBack(given),
+        _ => Call::Write,
+    }
+}
+
 pub(crate) fn step_of(b: &[u8; BYTES]) -> Step {
-    let asked = change_at(b, 1);
-    let did = change_at(b, 52);
     Step {
-        kind: wide(b[0]),
-        asked: asked,
-        refusal: wide(b[49]),
-        place: two(b[50], b[51]),
-        did: did,
-        at: two(b[100], b[101]) as u16,
-        count: wide(b[102]) as usize,
+        call: call_of(b[0], change_at(b, 1)),
+        refusal: u32::from(b[49]),
+        place: two(b[50], b[51]) as usize,
+        did: change_at(b, 52),
+        at: two(b[100], b[101]) as usize,
+        count: usize::from(b[102]),
         bytes: [b[103], b[104], b[105], b[106]],
     }
 }

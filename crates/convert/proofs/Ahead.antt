@@ -55,4 +55,5 @@ pub pieces-all : (zs : List Started) → pieces_with 0 zs ≡ pieces zs
 unfolding pieces_with pieces
 pieces-all [] = refl
 pieces-all (starts p x ∷ zs) =
-    ap {B = List Piece} (λ k. piece_of k p x ∷ pieces_with 0 zs) (none_ahead zs) ∙ ap {B = List Piece} (λ ks. piece_of (registers_ahead zs) p x ∷ ks) (pieces-all zs)
+    ap {B = List Piece} (λ k. piece_of k p x ∷ pieces_with 0 zs) (none_ahead zs)
+    ∙ ap {B = List Piece} (λ ks. piece_of (registers_ahead zs) p x ∷ ks) (pieces-all zs)

@@ -3,17 +3,16 @@ use mathlib.Core.Path.{◌≡◌, refl, sym, ap, subst, ◌∙◌}
 use mathlib.Core.Bool.{Bool, true, false, ◌&&◌}
 use Prim.Native.Nat.{ℕ, ◌<◌}
 use native.Mathlib.Omega.{arith}
-use lib.Dec.{T, leb, ltb, ltb→lt}
+use lib.Dec.{T, leb, ltb}
 use lib.Seq.{sets}
 use borrow.Author.Tests.{ltb-true, ltb-false, le-leb, lt-leb}
 use Rattle.rules.specs.Format.{Bytes}
 use Rattle.rules.specs.Constants.{greatest_limit, greatest_budget}
 use Rattle.text.specs.Convert.{fits_four, header_numbers_fit, one_to, header_fault}
 use Rattle.rules.proofs.Base.{and_left, and_right}
-use Rattle.scan.specs.Reading.{place_of, capped}
-use Rattle.scan.specs.declared.step.Step.{Step}
+use Rattle.scan.specs.Reading.{capped}
 use Rattle.scan.proofs.WordLaws.{capped-below, capped_same}
-use Rattle.lines.specs.Reading.{number_in}
+use Rattle.lines.specs.declared.ranges.Pair.{Pair}
 use Rattle.convert.specs.Head.{Headed, header_bytes, all_fit, fault_at}
 use Rattle.convert.proofs.HeadReading.{Three}
 
@@ -46,9 +45,9 @@ one-to-capped most n h = by (ltb n 4294967296) refl
 
 -- ---- their field
 
-module _ (s out after : Bytes) (l b : Step) (low high q start : ℕ) (fits : Bool) where
-  pub headed : Three s l b low high q → start ≡ fault_at (number_in l) (number_in b) (place_of l) (place_of b) → fits ≡ all_fit (number_in l) (number_in b) low high
-      → (fits ≡ true → after ≡ sets out 0 (header_bytes (number_in l) (number_in b) low high)) → Headed s out after q start fits
+module _ (s out after : Bytes) (limit p budget k : ℕ) (x : Pair) (start : ℕ) (fits : Bool) where
+  pub headed : Three s limit p budget k x → start ≡ fault_at limit budget p k → fits ≡ all_fit limit budget x.low x.high
+      → (fits ≡ true → after ≡ sets out 0 (header_bytes limit budget x.low x.high)) → Headed s out after x.place start fits
   unfolding header_fault header_numbers_fit
   headed h st fi wr =
       let g = h.header in
@@ -65,8 +64,8 @@ module _ (s out after : Bytes) (l b : Step) (low high q start : ℕ) (fits : Boo
       let fi' : fits ≡ header_numbers_fit g = fi ∙ rw (f₁, f₂, f₃, f₄) in
       record {
         header = g;
-        budget_at = place_of l;
-        label_at = place_of b;
+        budget_at = p;
+        label_at = k;
         reads = h.reads;
         start_is = st ∙ rw (o₁, o₂);
         fits_is = fi';
@@ -76,14 +75,14 @@ module _ (s out after : Bytes) (l b : Step) (low high q start : ℕ) (fits : Boo
               let t' : T (header_numbers_fit g) = subst T fi' t in
               let u = and_left (fits_four g.limit && fits_four g.budget) (fits_four g.label_low && fits_four g.label_high) t' in
               let v = and_right (fits_four g.limit && fits_four g.budget) (fits_four g.label_low && fits_four g.label_high) t' in
-              let e₁ : number_in l ≡ g.limit = li ∙ capped_is g.limit (and_left (fits_four g.limit) (fits_four g.budget) u) in
-              let e₂ : number_in b ≡ g.budget = bi ∙ capped_is g.budget (and_right (fits_four g.limit) (fits_four g.budget) u) in
-              let e₃ : low ≡ g.label_low = lo ∙ capped_is g.label_low (and_left (fits_four g.label_low) (fits_four g.label_high) v) in
-              let e₄ : high ≡ g.label_high = hi ∙ capped_is g.label_high (and_right (fits_four g.label_low) (fits_four g.label_high) v) in
+              let e₁ : limit ≡ g.limit = li ∙ capped_is g.limit (and_left (fits_four g.limit) (fits_four g.budget) u) in
+              let e₂ : budget ≡ g.budget = bi ∙ capped_is g.budget (and_right (fits_four g.limit) (fits_four g.budget) u) in
+              let e₃ : x.low ≡ g.label_low = lo ∙ capped_is g.label_low (and_left (fits_four g.label_low) (fits_four g.label_high) v) in
+              let e₄ : x.high ≡ g.label_high = hi ∙ capped_is g.label_high (and_right (fits_four g.label_low) (fits_four g.label_high) v) in
               wr (is_true fits t)
-              ∙ ap (λ n. sets out 0 (header_bytes n (number_in b) low high)) e₁
-              ∙ ap (λ n. sets out 0 (header_bytes g.limit n low high)) e₂
-              ∙ ap (λ n. sets out 0 (header_bytes g.limit g.budget n high)) e₃
+              ∙ ap (λ n. sets out 0 (header_bytes n budget x.low x.high)) e₁
+              ∙ ap (λ n. sets out 0 (header_bytes g.limit n x.low x.high)) e₂
+              ∙ ap (λ n. sets out 0 (header_bytes g.limit g.budget n x.high)) e₃
               ∙ ap (λ n. sets out 0 (header_bytes g.limit g.budget g.label_low n)) e₄;
         };
       }
@@ -91,23 +90,3 @@ module _ (s out after : Bytes) (l b : Step) (low high q start : ℕ) (fits : Boo
       is_true : (t : Bool) → T t → t ≡ true
       is_true true x = refl
       is_true false x = absurd x
-
-pub each_fits : (a b c d : ℕ) {f : Bool} → f ≡ all_fit a b c d → f ≡ true → (a < 4294967296) × (b < 4294967296) × (c < 4294967296) × (d < 4294967296)
-unfolding fits_four
-each_fits a b c d e t =
-    let y : T (all_fit a b c d) = subst T (sym t ∙ e) tt in
-    let u = and_left (fits_four a && fits_four b) (fits_four c && fits_four d) y in
-    let v = and_right (fits_four a && fits_four b) (fits_four c && fits_four d) y in
-    (below a (and_left (fits_four a) (fits_four b) u), below b (and_right (fits_four a) (fits_four b) u), below c (and_left (fits_four c) (fits_four d) v), below d (and_right (fits_four c) (fits_four d) v))
-  where
-    below : (n : ℕ) → T (fits_four n) → n < 4294967296
-    below n t = ltb→lt n 4294967296 t
-
-module _ (s out after : Bytes) (l b : Step) (low high q start : ℕ) (fits : Bool) where
-  pub head_done : {m n i j : ℕ} → Three s l b low high q → m ≡ number_in l → n ≡ number_in b → i ≡ place_of l → j ≡ place_of b
-      → start ≡ fault_at m n i j → fits ≡ all_fit m n low high → (fits ≡ true → after ≡ sets out 0 (header_bytes m n low high)) → Headed s out after q start fits
-  head_done {m} {n} {i} {j} h em en ei ej st fi wr =
-      headed s out after l b low high q start fits h
-      (st ∙ ap (λ z. fault_at z n i j) em ∙ ap (λ z. fault_at (number_in l) z i j) en ∙ ap (λ z. fault_at (number_in l) (number_in b) z j) ei ∙ ap (λ z. fault_at (number_in l) (number_in b) (place_of l) z) ej)
-      (fi ∙ ap (λ z. all_fit z n low high) em ∙ ap (λ z. all_fit (number_in l) z low high) en)
-      (λ t. wr t ∙ ap (λ z. sets out 0 (header_bytes z n low high)) em ∙ ap (λ z. sets out 0 (header_bytes (number_in l) z low high)) en)

@@ -1,5 +1,5 @@
 -- A field that is written into what is left of a buffer from a place on.
-use Rattle.std.specs.Prelude.{if◌then◌else◌}
+use Rattle.std.specs.Prelude.{if◌then◌else◌, Result, Ok, Err}
 use mathlib.Core.Path.{◌≡◌, refl, sym, ap, ◌∙◌}
 use mathlib.Core.Bool.{Bool, true, false}
 use mathlib.Core.List.{[], ◌++◌, append-nil}
@@ -18,13 +18,13 @@ use Rattle.scan.proofs.WordLaws.{here, over}
 use Rattle.lines.specs.Writing.{Lines, Put, due_of, field_before}
 use Rattle.convert.specs.Whole.{place_in, Laid, Lays}
 use Rattle.lines.specs.declared.line.Field.{Field}
-use Rattle.lines.specs.declared.line.Field.TheVariants as fields
 
 -- bytes put at the front
 pub front-put : (o e : Bytes) → length e ≤ length o → take (length e) (sets o 0 e) ≡ e
 front-put o e h = ap (take (length e)) (sets-eq e o 0 (omega arith)) ∙ take_at e (drop (0 + length e) o) (length e) refl
 
-module _ (before part part' : Bytes) (k : ℕ) (h : k ≤ length before) (l : length part ≡ length before - k) (l' : length part' ≡ length part) where
+module _ (before part part' : Bytes) (k : ℕ) (h : k ≤ length before) (l : length part ≡ length before - k)
+    (l' : length part' ≡ length part) where
   abbrev pub after : Bytes
   after = put_mid k (length before - k) before part'
 
@@ -44,7 +44,8 @@ module _ (before part part' : Bytes) (k : ℕ) (h : k ≤ length before) (l : le
   behind = ap (drop k) after_is ∙ drop_at (take k before) part' k front
 
   same_length : length after ≡ length before
-  same_length = let e : length (take k before ++ part') ≡ length (take k before) + length part' = length-append (take k before) part' in let f = front in ap length after_is ∙ (omega arith)
+  same_length = let e : length (take k before ++ part') ≡ length (take k before) + length part' = length-append
+      (take k before) part' in let f = front in ap length after_is ∙ (omega arith)
 
   -- what stood up to a place before k stands there still
   kept-to : (j : ℕ) → j ≤ k → take j after ≡ take j before
@@ -56,7 +57,8 @@ module _ (before part part' : Bytes) (k : ℕ) (h : k ≤ length before) (l : le
       where
         by : (x : Bool) → ltb (length before) whole ≡ x → min from (length before) ≤ k
         by true e = let i : k ≡ length before = kf ∙ ap (λ x. if x then length before else min from (length before)) e in omega arith
-        by false e = let i : k ≡ min from (length before) = kf ∙ ap (λ x. if x then length before else min from (length before)) e in omega arith
+        by false e = let i : k ≡ min from (length before) = kf
+            ∙ ap (λ x. if x then length before else min from (length before)) e in omega arith
 
     there : whole ≤ length before → k ≡ min from (length before)
     there h = kf ∙ ap (λ x. if x then length before else min from (length before)) (le-ltb (length before) whole h)
@@ -79,10 +81,10 @@ module _ (before part part' : Bytes) (k : ℕ) (h : k ≤ length before) (l : le
           ap (λ z. take (length x) (drop z after)) e ∙ ap (take (length x)) (behind ∙ b) ∙ front-put part x (omega arith);
     }
 
-    pub lays : (g : Read Line) (r : Field) → Lines s part 0 part' g r → Lays s before from whole after g r
+    pub lays : (g : Read Line) (r : Result Field ℕ) → Lines s part 0 part' g r → Lays s before from whole after g r
     unfolding Lines
-    lays g (fields.Took d q n f) p = laid g (due_of d) q n f p
-    lays g (fields.Stop q) p = p
+    lays g (Ok x) p = laid g (due_of x.due) x.place x.end x.fits p
+    lays g (Err q) p = p
 
 -- ---- a text's end
 

@@ -53,7 +53,8 @@ Among g = Took (MayStand statement_due) g
 
 ended : (g : Read Line) → Among g → Among (then_read g line_end)
 unfolding line_end
-ended g h = then-with (MayStand statement_due) (MayStand statement_due) g line_end h (λ z r p. line-end-took (MayStand statement_due) z p (spaces r))
+ended g h = then-with (MayStand statement_due) (MayStand statement_due) g line_end h
+    (λ z r p. line-end-took (MayStand statement_due) z p (spaces r))
 
 module _ (s : Bytes) where
   line-empty : length (spaces s) ≤ 0 → read_line reg_due s ≡ stop (spaces s)
@@ -62,14 +63,16 @@ module _ (s : Bytes) where
 
   reg-there : head_line (bytes "reg") (range signed interval) (spaces s) ≡ register_line s
   unfolding register_line head_line word_only keyword
-  reg-there = ap (λ u. then_read (then_read (then_read (spell (word (bytes "reg") tt ∷ []) u) apart) (λ _ r. range signed interval r)) line_end) (spaces-twice s)
+  reg-there = ap (λ u. then_read
+      (then_read (then_read (spell (word (bytes "reg") tt ∷ []) u) apart) (λ _ r. range signed interval r)) line_end) (spaces-twice s)
 
   -- by the first byte
   module _ (h : 0 < length (spaces s)) where
     is_reg : get_or (spaces s) 0 0 ≡ 114 → read_line reg_due s ≡ map_read reg_line (register_line s)
     unfolding read_line is_digit
     is_reg e =
-        sym (reg-line (spaces s) 0 h (spaces-twice s) (ap is_digit e) e) ∙ sym (range-there (spaces s) 0 (bytes "reg") reg_line) ∙ ap (map_read reg_line) reg-there
+        sym (reg-line (spaces s) 0 h (spaces-twice s) (ap is_digit e) e) ∙ sym (range-there (spaces s) 0 (bytes "reg") reg_line)
+        ∙ ap (map_read reg_line) reg-there
 
     not-reg : (get_or (spaces s) 0 0 ≡ 114 → ⊥) → register_line s ≡ stop (spaces s)
     unfolding register_line head_line word_only keyword then_read
@@ -80,20 +83,24 @@ module _ (s : Bytes) where
     statement-stands n = by (is_digit (get_or (spaces s) 0 0)) refl
       where
         by : (d : Bool) → is_digit (get_or (spaces s) 0 0) ≡ d → Among (then_read (line_here reg_due (spaces s)) line_end)
-        by true e = subst (λ g. Among (then_read g line_end)) (timed-first (spaces s) 0 h (spaces-twice s) e) (ended (timed (spaces s)) (timed-suits statement_due tt (spaces s)))
+        by true e = subst (λ g. Among (then_read g line_end)) (timed-first (spaces s) 0 h (spaces-twice s) e)
+            (ended (timed (spaces s)) (timed-suits statement_due tt (spaces s)))
         by false e =
             subst Among (first-halt-line (spaces s) 0 h (spaces-twice s) e n)
             (ended (then_read (word_only (bytes "halt") (spaces s)) (λ _ t. took (statement_line 0 0 halt) t))
             (then-any (MayStand statement_due) (word_only (bytes "halt") (spaces s)) _ (λ _ r. another_statement 0 0 halt)))
 
-  pub reg_read : {x : Line} {r : Bytes} → read_line reg_due s ≡ took x r → (p : ℕ) → on_register (register_line s) (ahead_of reg_due) ≡ ahead_with (ahead_of (due_after x) r) (starts p x ∷ [])
+  pub reg_read : {x : Line} {r : Bytes} → read_line reg_due s ≡ took x r → (p : ℕ)
+      → on_register (register_line s) (ahead_of reg_due) ≡ ahead_with (ahead_of (due_after x) r) (starts p x ∷ [])
   unfolding on_register ahead_with due_after
   reg_read {x} {r} e p = elim (dec_lt 0 (length (spaces s))) [
-    | no n ↦ let z : ◌≡◌ {A = Read Line} (stop (spaces s)) (took x r) = sym (line-empty (omega arith)) ∙ e in let y : ◌≡◌ {A = ℕ} 0 1 = cc in absurd (omega arith)
+    | no n ↦ let z : ◌≡◌ {A = Read Line} (stop (spaces s)) (took x r) = sym (line-empty (omega arith))
+        ∙ e in let y : ◌≡◌ {A = ℕ} 0 1 = cc in absurd (omega arith)
     | yes h ↦ by h (eqb (get_or (spaces s) 0 0) 114) refl
   ]
     where
-      by : 0 < length (spaces s) → (t : Bool) → eqb (get_or (spaces s) 0 0) 114 ≡ t → on_register (register_line s) (ahead_of reg_due) ≡ ahead_with (ahead_of (due_after x) r) (starts p x ∷ [])
+      by : 0 < length (spaces s) → (t : Bool) → eqb (get_or (spaces s) 0 0) 114 ≡ t
+          → on_register (register_line s) (ahead_of reg_due) ≡ ahead_with (ahead_of (due_after x) r) (starts p x ∷ [])
       by h true t =
           let z = map-took reg_line (register_line s) (sym e ∙ is_reg h (eqb-true (get_or (spaces s) 0 0) 114 t)) in
           let i = z.1.0 in

@@ -58,7 +58,9 @@ at_before : (xs ys : List Piece) (p : ℕ) → p < length (in_row written xs) �
 at_before [] ys p h = let e = nothing-row in absurd (omega arith)
 at_before (x ∷ xs) ys p h = by (ltb p (length (written x))) refl (λ l. at_before xs ys (p - length (written x)) l)
   where
-    by : (t : Bool) → ltb p (length (written x)) ≡ t → (p - length (written x) < length (in_row written xs) → piece_at (xs ++ ys) (p - length (written x)) ≡ piece_at xs (p - length (written x)))
+    by : (t : Bool) → ltb p (length (written x)) ≡ t
+        → (p - length (written x) < length (in_row written xs)
+        → piece_at (xs ++ ys) (p - length (written x)) ≡ piece_at xs (p - length (written x)))
         → piece_at (x ∷ (xs ++ ys)) p ≡ piece_at (x ∷ xs) p
     by true e ih = let l = ltb-true p (length (written x)) e in at_first x (xs ++ ys) p l ∙ sym (at_first x xs p l)
     by false e ih =
@@ -66,7 +68,8 @@ at_before (x ∷ xs) ys p h = by (ltb p (length (written x))) refl (λ l. at_bef
         let r = head-row x xs in
         at-later x (xs ++ ys) p l ∙ ih (omega arith) ∙ sym (at-later x xs p l)
 
-at-behind : (xs ys : List Piece) (p : ℕ) → length (in_row written xs) ≤ p → piece_at (xs ++ ys) p ≡ piece_at ys (p - length (in_row written xs))
+at-behind : (xs ys : List Piece) (p : ℕ) → length (in_row written xs) ≤ p
+    → piece_at (xs ++ ys) p ≡ piece_at ys (p - length (in_row written xs))
 at-behind [] ys p h = let e = nothing-row in let q : p ≡ p - length (in_row written []) = omega arith in ap (piece_at ys) q
 at-behind (x ∷ xs) ys p h =
     let r = head-row x xs in
@@ -77,7 +80,8 @@ at-behind (x ∷ xs) ys p h =
 -- ---- one more piece
 
 module _ (xs : List Piece) (x : Piece) (target : ℕ) where
-  last-at : length (in_row written xs) ≤ target → target < length (in_row written xs) + length (written x) → piece_at (xs ++ (x ∷ [])) target ≡ x
+  last-at : length (in_row written xs) ≤ target → target < length (in_row written xs) + length (written x)
+      → piece_at (xs ++ (x ∷ [])) target ≡ x
   last-at h k = at-behind xs (x ∷ []) target h ∙ at_first x [] (target - length (in_row written xs)) (omega arith)
 
   none-at : length (in_row written xs) + length (written x) ≤ target → piece_at (xs ++ (x ∷ [])) target ≡ piece_at xs target
@@ -110,7 +114,8 @@ written_is x f e = rw e
 
 module _ (xs : List Piece) (x : Piece) (m : Bytes) (target : ℕ) (w : Written) (h : SoFar xs m target w) (small : length m < 65536) where
   -- the bytes
-  laid : (f : Bool) → x.fits ≡ f → w.whole ≤ length m → Stands m w.end x.whole f → length (in_row written xs) + length (written x) ≤ length m
+  laid : (f : Bool) → x.fits ≡ f → w.whole ≤ length m → Stands m w.end x.whole f
+      → length (in_row written xs) + length (written x) ≤ length m
       → take (length (in_row written xs) + length (written x)) (after_of f m w.end) ≡ in_row written xs ++ written x
   laid true e hw st l =
       let q : written x ≡ x.whole = written_is x true e in
@@ -146,12 +151,14 @@ module _ (xs : List Piece) (x : Piece) (m : Bytes) (target : ℕ) (w : Written) 
     pub start-goes : length (in_row written xs) + length (written x) ≤ length m → st ≡ (piece_at (xs ++ (x ∷ [])) target).start
     pub fits-goes : length (in_row written xs) + length (written x) ≤ length m → b ≡ (piece_at (xs ++ (x ∷ [])) target).fits
 
-  pub more : {a : Bytes} {n k to whole st : ℕ} {f b : Bool} → x.fits ≡ f → n ≡ min (length x.whole) 65536 → (w.whole ≤ length m → Stands m w.end x.whole f)
+  pub more : {a : Bytes} {n k to whole st : ℕ} {f b : Bool} → x.fits ≡ f → n ≡ min (length x.whole) 65536
+      → (w.whole ≤ length m → Stands m w.end x.whole f)
       → k ≡ size_of f n → a ≡ after_of f m w.end → to ≡ min (w.end + k) 65536 → whole ≡ min (w.whole + n) 65536
       → Aims st b → SoFar (xs ++ (x ∷ [])) a target (written_of to whole st b)
   more {a} {n} {k} {to} {whole} {st} {f} {b} e ln sd ke ae te we g =
       let l : length (in_row written (xs ++ (x ∷ []))) ≡ length (in_row written xs) + length (written x) = row-length written xs x in
-      let lw : length (in_row (λ (y : Piece). y.whole) (xs ++ (x ∷ []))) ≡ length (in_row (λ (y : Piece). y.whole) xs) + length x.whole = row-length (λ (y : Piece). y.whole) xs x in
+      let lw : length (in_row (λ (y : Piece). y.whole) (xs ++ (x ∷ []))) ≡ length
+      (in_row (λ (y : Piece). y.whole) xs) + length x.whole = row-length (λ (y : Piece). y.whole) xs x in
       let i = h.end_is in
       let j = h.whole_is in
       let s = put-size f n e ln in
@@ -163,7 +170,8 @@ module _ (xs : List Piece) (x : Piece) (m : Bytes) (target : ℕ) (w : Written) 
         stands = λ r v.
             let hw : w.whole ≤ length m = before-too w.whole n we (subst (λ z. whole ≤ z) room v) small in
             let u : length (in_row written xs) + length (written x) ≤ length m = omega arith in
-            ap (λ z. take z a) l ∙ ap (take (length (in_row written xs) + length (written x))) ae ∙ laid f e hw (sd hw) u ∙ sym (row_more written xs x);
+            ap (λ z. take z a) l ∙ ap (take (length (in_row written xs) + length (written x))) ae ∙ laid f e hw (sd hw) u
+            ∙ sym (row_more written xs x);
         start_is = λ r. g.start-goes (omega arith);
         fits_is = λ r. g.fits-goes (omega arith);
       }
@@ -177,7 +185,8 @@ module _ (xs : List Piece) (x : Piece) (m : Bytes) (target : ℕ) (w : Written) 
       let ks : min k 65536 ≡ min (length (written x)) 65536 = ap (λ z. min z 65536) ke ∙ s in
       omega arith
 
-  module _ {n k to start : ℕ} {f : Bool} (e : x.fits ≡ f) (es : x.start ≡ start) (ln : n ≡ min (length x.whole) 65536) (ke : k ≡ size_of f n) (te : to ≡ min (w.end + k) 65536) where
+  module _ {n k to start : ℕ} {f : Bool} (e : x.fits ≡ f) (es : x.start ≡ start) (ln : n ≡ min (length x.whole) 65536)
+      (ke : k ≡ size_of f n) (te : to ≡ min (w.end + k) 65536) where
     pub aims-here : w.end ≤ target → target < to → Aims start f
     aims-here u v =
         let i = h.end_is in
@@ -188,7 +197,8 @@ module _ (xs : List Piece) (x : Piece) (m : Bytes) (target : ℕ) (w : Written) 
           fits-goes = λ r. sym e ∙ ap (λ (p : Piece). p.fits) (sym (at r));
         }
 
-    kept-aims : (length (in_row written xs) + length (written x) ≤ length m → piece_at (xs ++ (x ∷ [])) target ≡ piece_at xs target) → Aims w.start w.fits
+    kept-aims : (length (in_row written xs) + length (written x) ≤ length m → piece_at (xs ++ (x ∷ [])) target ≡ piece_at xs target)
+        → Aims w.start w.fits
     kept-aims at = record {
       start-goes = λ r. h.start_is (omega arith) ∙ ap (λ (p : Piece). p.start) (sym (at r));
       fits-goes = λ r. h.fits_is (omega arith) ∙ ap (λ (p : Piece). p.fits) (sym (at r));
@@ -200,6 +210,11 @@ module _ (xs : List Piece) (x : Piece) (m : Bytes) (target : ℕ) (w : Written) 
     pub aims-before : target < w.end → Aims w.start w.fits
     aims-before u = kept-aims (λ r. let i = h.end_is in at_before xs (x ∷ []) target (omega arith))
 
-pub size_small : (f : Bool) {n r : ℕ} → n ≤ 65536 → r ≡ size_of f n → r ≤ 65536
-size_small true h e = omega arith
-size_small false h e = omega arith
+    -- elsewhere the piece at the target is the one that it was
+    pub aims-kept : (w.end ≤ target → target < to → ⊥) → Aims w.start w.fits
+    aims-kept n = by (ltb target w.end) (ltb target to) refl refl
+      where
+        by : (a b : Bool) → ltb target w.end ≡ a → ltb target to ≡ b → Aims w.start w.fits
+        by true b i j = aims-before (ltb-true target w.end i)
+        by false true i j = absurd (n (ltb-false target w.end i) (ltb-true target to j))
+        by false false i j = aims-past (ltb-false target to j)

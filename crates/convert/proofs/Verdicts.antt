@@ -41,11 +41,14 @@ piece-smaller x h = by x.fits
 abbrev whole_of : Piece → Bytes
 whole_of x = x.whole
 
-row-smaller : (x : Piece) (xs : List Piece) → 3 ≤ length x.whole → length (in_row written xs) ≤ length (in_row whole_of xs) → length (in_row written (x ∷ xs)) ≤ length (in_row whole_of (x ∷ xs))
+row-smaller : (x : Piece) (xs : List Piece) → 3 ≤ length x.whole → length (in_row written xs) ≤ length (in_row whole_of xs)
+    → length (in_row written (x ∷ xs)) ≤ length (in_row whole_of (x ∷ xs))
 unfolding in_row
 row-smaller x xs h k =
-    let a : length (written x ++ in_row written xs) ≡ length (written x) + length (in_row written xs) = length-append (written x) (in_row written xs) in
-    let b : length (x.whole ++ in_row whole_of xs) ≡ length x.whole + length (in_row whole_of xs) = length-append x.whole (in_row whole_of xs) in
+    let a : length (written x ++ in_row written xs) ≡ length (written x) + length (in_row written xs) = length-append (written x)
+    (in_row written xs) in
+    let b : length (x.whole ++ in_row whole_of xs) ≡ length x.whole + length (in_row whole_of xs) = length-append x.whole
+    (in_row whole_of xs) in
     let c = piece-smaller x h in
     omega arith
 
@@ -57,12 +60,14 @@ pieces-smaller : (xs : List Started) → length (in_row written (pieces xs)) ≤
 unfolding pieces
 pieces-smaller [] = none-smaller
 pieces-smaller (starts p x ∷ xs) =
-    row-smaller (record { start = p; whole = field_of (registers_ahead xs) x; fits = line_fits x }) (pieces xs) (field-three (registers_ahead xs) x) (pieces-smaller xs)
+    row-smaller (record { start = p; whole = field_of (registers_ahead xs) x; fits = line_fits x }) (pieces xs)
+    (field-three (registers_ahead xs) x) (pieces-smaller xs)
 
 pub sheet-smaller : (t : Text) → length (sheet_of t) ≤ full_length t
 unfolding text_pieces
 sheet-smaller t =
-    row-smaller (record { start = header_fault t; whole = encode_header t.header; fits = header_numbers_fit t.header }) (pieces t.lines) (omega arith) (pieces-smaller t.lines)
+    row-smaller (record { start = header_fault t; whole = encode_header t.header; fits = header_numbers_fit t.header }) (pieces t.lines)
+    (omega arith) (pieces-smaller t.lines)
 
 -- ---- the verdict, text by text
 
@@ -78,10 +83,13 @@ module _ (room : ℕ) (s : Bytes) where
   judge : (t : Text) (b : Bool) → read_text s ≡ took t [] → ltb longest_sheet (full_length t) ≡ b
       → (if b then refused_with room too_long 0 else judged room (text_pieces t) (read_sheet (sheet_of t))) ≡ convert room s
   unfolding made
-  judge t b e h = sym (made-is t e ∙ ap (λ c. if c then refused_with room too_long 0 else judged room (text_pieces t) (read_sheet (sheet_of t))) h)
+  judge t b e h = sym (made-is t e
+      ∙ ap (λ c. if c then refused_with room too_long 0 else judged room (text_pieces t) (read_sheet (sheet_of t))) h)
 
-  pub when-long : (t : Text) → read_text s ≡ took t [] → longest_sheet < full_length t → refused_by room (number too_long) 0 ≡ convert room s
+  pub when-long : (t : Text) → read_text s ≡ took t [] → longest_sheet < full_length t
+      → refused_by room (number too_long) 0 ≡ convert room s
   when-long t e l = judge t true e (lt-ltb longest_sheet (full_length t) l)
 
-  pub when-short : (t : Text) → read_text s ≡ took t [] → full_length t ≤ longest_sheet → judged room (text_pieces t) (read_sheet (sheet_of t)) ≡ convert room s
+  pub when-short : (t : Text) → read_text s ≡ took t [] → full_length t ≤ longest_sheet
+      → judged room (text_pieces t) (read_sheet (sheet_of t)) ≡ convert room s
   when-short t e l = judge t false e (le-ltb longest_sheet (full_length t) l)

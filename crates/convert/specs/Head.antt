@@ -1,5 +1,5 @@
 -- What the code reads and writes of the lines `limit`, `budget` and `label`.
-use Rattle.std.specs.Prelude.{◌≡◌, Bool, ◌&&◌, List, [], ◌++◌, ℕ, length, drop, if◌then◌else◌}
+use Rattle.std.specs.Prelude.{◌≡◌, Bool, ◌&&◌, List, [], ◌++◌, ℕ, Result, Ok, Err, length, drop, if◌then◌else◌}
 use Rattle.rules.specs.Constants.{greatest_limit, greatest_budget}
 use Rattle.rules.specs.Format.{Bytes}
 use Rattle.rules.specs.Program.{Header}
@@ -9,7 +9,6 @@ use Rattle.text.specs.Lines.{Started, Text, locks_due, read_lines, read_text}
 use Rattle.text.specs.Convert.{one_to, fits_four, header_numbers_fit, header_fault}
 use Rattle.scan.specs.Writing.{Wrote}
 use Rattle.convert.specs.declared.head.Head.{Head}
-use Rattle.convert.specs.declared.head.Head.TheVariants as head
 
 abbrev pub header_bytes : ℕ → ℕ → ℕ → ℕ → Bytes
 header_bytes l b low high = field 1 (four l ++ four b ++ four low ++ four high)
@@ -35,10 +34,10 @@ pub record Headed (s out after : Bytes) (q start : ℕ) (fits : Bool) : Type 0 w
   pub fits_is : fits ≡ header_numbers_fit header
   pub wrote : Wrote out 0 (encode_header header) fits after 19
 
-abbrev pub Heads : Bytes → Bytes → Bytes → Head → Type 0
-Heads s out after (head.Took q start fits) = Headed s out after q start fits
-Heads s out after (head.Stop q) = read_text s ≡ stop (drop q s)
+abbrev pub Heads : Bytes → Bytes → Bytes → Result Head ℕ → Type 0
+Heads s out after (Ok h) = Headed s out after h.place h.start h.fits
+Heads s out after (Err q) = read_text s ≡ stop (drop q s)
 
-abbrev pub head_place : Head → ℕ
-head_place (head.Took q start fits) = q
-head_place (head.Stop q) = q
+abbrev pub head_place : Result Head ℕ → ℕ
+head_place (Ok h) = h.place
+head_place (Err q) = q

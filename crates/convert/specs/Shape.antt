@@ -1,12 +1,15 @@
 -- What the code gives back of a text, in terms of the definition.
-use Rattle.std.specs.Prelude.{◌≡◌, List, [], ℕ, ◌≤◌, length, take, replicate, if◌then◌else◌}
+use Rattle.std.specs.Prelude.{◌≡◌, List, [], ℕ, ◌≤◌, Result, Ok, Err, length, take, replicate, if◌then◌else◌}
 use Rattle.rules.specs.Base.{at_front}
 use Rattle.rules.specs.Format.{Bytes, read_sheet}
+use Rattle.rules.specs.Refusal.{number}
 use Rattle.text.specs.Words.{took}
 use Rattle.text.specs.Lines.{Text, read_text}
 use Rattle.text.specs.Convert.{Conversion, text_pieces, piece_at, judged, convert}
 use Rattle.text.specs.Claims.{WritesSheet, sheet_of}
 use Rattle.writing.specs.Out.{three}
+use Rattle.refusal.specs.Shape.{rule_of}
+use Rattle.refusal.specs.declared.Fault.{Fault}
 use Rattle.convert.specs.declared.output.Conversion as D
 
 -- with what the lent buffer holds afterwards
@@ -16,6 +19,11 @@ conversion_of r sheet = record { refusal = r.refusal; place = r.place; written =
 -- a refusal by its number
 abbrev pub refused_by : ℕ → ℕ → ℕ → Conversion
 refused_by room r p = record { refusal = r; place = p; written = 0; sheet = replicate room 0 }
+
+-- a sheet of so many bytes, or a refusal and its place, told of what the lent buffer holds
+abbrev pub told_of : Result ℕ Fault → Bytes → Conversion
+told_of (Ok n) sheet = record { refusal = 0; place = 0; written = n; sheet = sheet }
+told_of (Err f) sheet = refused_by (length sheet) (number (rule_of f.refusal)) f.place
 
 -- of a text whose sheet, which there is room for, the reader refuses with this number at this place
 abbrev pub Blames : Bytes → ℕ → ℕ → ℕ → ℕ → Conversion → Type 0

@@ -1,5 +1,5 @@
 -- What the code has written of a text so far, and what it makes of the whole.
-use Rattle.std.specs.Prelude.{◌≡◌, Bool, List, [], ◌∷◌, ℕ, ◌+◌, ◌≤◌, min, T, ltb, length, take, drop, if◌then◌else◌}
+use Rattle.std.specs.Prelude.{◌≡◌, Bool, List, [], ◌∷◌, ℕ, ◌+◌, ◌≤◌, min, Result, Ok, Err, T, ltb, length, take, drop, if◌then◌else◌}
 use Rattle.rules.specs.Format.{Bytes}
 use Rattle.rules.specs.Encoding.{in_row}
 use Rattle.text.specs.Words.{Read, stop, took}
@@ -7,10 +7,7 @@ use Rattle.text.specs.Lines.{Line, Due, due_after, Started, Text, read_text}
 use Rattle.text.specs.Convert.{Piece, line_fits, pieces, text_pieces, written, piece_at}
 use Rattle.lines.specs.Writing.{due_of, field_before}
 use Rattle.lines.specs.declared.line.Field.{Field}
-use Rattle.lines.specs.declared.line.Field.TheVariants as fields
 use Rattle.convert.specs.declared.whole.Written.{Written}
-use Rattle.convert.specs.declared.whole.Made.{Made}
-use Rattle.convert.specs.declared.whole.Made.TheVariants as made
 
 abbrev pub Pieces : Type 0
 Pieces = List Piece
@@ -34,9 +31,9 @@ pub record Laid (s before : Bytes) (from whole : ℕ) (after : Bytes) (g : Read 
   pub kept : take (min from (length before)) after ≡ take (min from (length before)) before
   pub stands : whole ≤ length before → Stands after from (field_before (drop q s) line) fits
 
-abbrev pub Lays : Bytes → Bytes → ℕ → ℕ → Bytes → Read Line → Field → Type 0
-Lays s before from whole after g (fields.Took d q n f) = Laid s before from whole after g (due_of d) q n f
-Lays s before from whole after g (fields.Stop q) = g ≡ stop (drop q s)
+abbrev pub Lays : Bytes → Bytes → ℕ → ℕ → Bytes → Read Line → Result Field ℕ → Type 0
+Lays s before from whole after g (Ok x) = Laid s before from whole after g (due_of x.due) x.place x.end x.fits
+Lays s before from whole after g (Err q) = g ≡ stop (drop q s)
 
 -- the pieces so far stand at the front of a buffer, as far as there is room; and of the piece at the target it is known which it is
 pub record SoFar (xs : List Piece) (now : Bytes) (target : ℕ) (w : Written) : Type 0 where
@@ -55,13 +52,13 @@ pub record LinesMade (x : Piece) (after : Bytes) (target : ℕ) (g : Read (List 
   pub reads : g ≡ took lines []
   pub so_far : SoFar (x ∷ pieces lines) after target w
 
-abbrev pub MadeFrom : Piece → Bytes → Bytes → ℕ → Read (List Started) → Made → Type 0
-MadeFrom x s after target g (made.Took e w st f) = LinesMade x after target g (written_of e w st f)
-MadeFrom x s after target g (made.Stop q) = g ≡ stop (drop q s)
+abbrev pub MadeFrom : Piece → Bytes → Bytes → ℕ → Read (List Started) → Result Written ℕ → Type 0
+MadeFrom x s after target g (Ok w) = LinesMade x after target g w
+MadeFrom x s after target g (Err q) = g ≡ stop (drop q s)
 
-abbrev pub made_place : Made → ℕ
-made_place (made.Took e w st f) = 0
-made_place (made.Stop q) = q
+abbrev pub made_place : Result Written ℕ → ℕ
+made_place (Ok w) = 0
+made_place (Err q) = q
 
 -- the whole text
 pub record TextMade (s after : Bytes) (target : ℕ) (w : Written) : Type 0 where
@@ -69,6 +66,6 @@ pub record TextMade (s after : Bytes) (target : ℕ) (w : Written) : Type 0 wher
   pub reads : read_text s ≡ took text []
   pub so_far : SoFar (text_pieces text) after target w
 
-abbrev pub Makes : Bytes → Bytes → ℕ → Made → Type 0
-Makes s after target (made.Took e w st f) = TextMade s after target (written_of e w st f)
-Makes s after target (made.Stop q) = read_text s ≡ stop (drop q s)
+abbrev pub Makes : Bytes → Bytes → ℕ → Result Written ℕ → Type 0
+Makes s after target (Ok w) = TextMade s after target w
+Makes s after target (Err q) = read_text s ≡ stop (drop q s)

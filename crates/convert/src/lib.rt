@@ -5,69 +5,81 @@ mod head; // limit, budget and label
 mod whole; // all lines
 mod output; // the lent buffer at the end
 
-ghost use Rattle.std.specs.Prelude.{◌≡◌, ◌≤◌, ◌<◌, length};
+ghost use Rattle.std.specs.Prelude.{◌≡◌, ℕ, ◌≤◌, ◌<◌, length};
 ghost use Rattle.rules.specs.Demands.{Unchanged};
+ghost use Rattle.rules.specs.Refusal.{number};
 ghost use Rattle.text.specs.Convert as Rule;
-ghost use Rattle.convert.specs.Shape.{conversion_of, Blames, Judges, ConvertsWell, ThreeIn, Leaves};
+ghost use Rattle.refusal.specs.Shape.{rule_of};
+ghost use Rattle.convert.specs.Shape.{conversion_of, told_of, refused_by, Blames, Judges, ConvertsWell, ThreeIn, Leaves};
 
 use crate::output::{fill, refuse};
-use crate::whole::{Made, text_at};
+use crate::whole::text_at;
 pub use output::Conversion;
 use reader::read_sheet;
-use refusal::{Refusal, number_of};
-use writing::put_three;
+use refusal::{Fault, Refusal};
+use writing::put_front;
 
 const LONGEST_SHEET: usize = 16384;
 
-// What the reader refuses is said of the line whose field is at its place, at the start of that line: its own number, or 4 where a number
+// What the reader refuses is said of the line whose field is at its place, at the start of that line: its own refusal, or 4 where a number
 // of the line is too big. The text is gone through once more, to find that line.
-fn blame(text: &[u8], work: &mut [u8], sheet: &mut [u8], refusal: u32, place: usize) -> Conversion
+fn blame(text: &[u8], work: &mut [u8], fault: Fault) -> Fault
     requires { length work.old < 65536 }
-    ensures { Blames text.now (length work.old) (length sheet.old) refusal place (conversion_of result sheet.new) }
+    ensures { (room : ℕ) → Blames text.now (length work.old) room (number (rule_of fault.refusal)) fault.place
+        (refused_by room (number (rule_of result.refusal)) result.place) }
 {
-    let m = text_at(text, work, place);
-    match m {
-        Made::Stop(_) => refuse(sheet, refusal, place),
-        Made::Took(_, _, start, fits) => {
-            if fits {
-                return refuse(sheet, refusal, start);
-            }
-            refuse(sheet, number_of(Refusal::OffRange), start)
-        }
+    match text_at(text, work, fault.place) {
+        Ok(w) => Fault {
+            refusal: if w.fits {
+                fault.refusal
+            } else {
+                Refusal::OffRange
+            },
+            place: w.start,
+        },
+        Err(_) => fault,
     }
 }
 
-// The reader says whether what was written is a sheet.
-fn judge(text: &[u8], work: &mut [u8], end: usize, sheet: &mut [u8]) -> Conversion
+// The reader says whether what was written is a sheet. Its bytes are counted where it is one that there is room for.
+fn judge(text: &[u8], work: &mut [u8], end: usize, sheet: &mut [u8]) -> Result<usize, Fault>
     requires { (end ≤ length work.old) × (length work.old < 65536) }
-    ensures { Judges text.now work.old end (length sheet.old) (conversion_of result sheet.new) }
+    ensures { Judges text.now work.old end (length sheet.old) (told_of result sheet.new) }
 {
-    let x = read_sheet(&work[..end]);
-    let refusal = x.refusal;
-    if refusal != 0 {
-        return blame(text, work, sheet, refusal, x.place);
+    if let Err(fault) = read_sheet(&work[..end]) {
+        return Err(blame(text, work, fault));
     }
     if sheet.len() < end {
-        return refuse(sheet, number_of(Refusal::OutputFull), 0);
+        return Err(Fault {
+            refusal: Refusal::OutputFull,
+            place: 0,
+        });
     }
-    fill(sheet, &work[..end])
+    fill(sheet, &work[..end]);
+    Ok(end)
 }
 
 // The sheet goes through the work buffer, which has room for it, since it may be refused before it is known to fit.
-fn convert_through(text: &[u8], work: &mut [u8], sheet: &mut [u8]) -> Conversion
+fn convert_through(text: &[u8], work: &mut [u8], sheet: &mut [u8]) -> Result<usize, Fault>
     requires { length work.old ≡ 16384 }
-    ensures { conversion_of result sheet.new ≡ Rule.convert (length sheet.old) text.now }
+    ensures { told_of result sheet.new ≡ Rule.convert (length sheet.old) text.now }
 {
-    let m = text_at(text, work, 0);
-    match m {
-        Made::Stop(q) => refuse(sheet, number_of(Refusal::Unreadable), q),
-        Made::Took(end, whole, _, _) => {
-            if LONGEST_SHEET < whole {
-                return refuse(sheet, number_of(Refusal::TooLong), 0);
-            }
-            judge(text, work, end, sheet)
+    let w = match text_at(text, work, 0) {
+        Ok(w) => w,
+        Err(place) => {
+            return Err(Fault {
+                refusal: Refusal::Unreadable,
+                place,
+            });
         }
+    };
+    if LONGEST_SHEET < w.whole {
+        return Err(Fault {
+            refusal: Refusal::TooLong,
+            place: 0,
+        });
     }
+    judge(text, work, w.end, sheet)
 }
 
 // Converts a text into a sheet in the lent buffer, with zeros behind it; all zeros where it is refused.
@@ -77,7 +89,14 @@ pub fn convert_text(text: &[u8], sheet: &mut [u8]) -> Conversion
     ensures unchanged { Unchanged text.now text.now }
 {
     let mut work = [0u8; LONGEST_SHEET];
-    convert_through(text, &mut work, sheet)
+    match convert_through(text, &mut work, sheet) {
+        Ok(written) => Conversion {
+            refusal: 0,
+            place: 0,
+            written,
+        },
+        Err(fault) => refuse(sheet, fault),
+    }
 }
 
 // The same for callers in C and in Rust: the answer's three numbers (refusal, place, bytes written) go to the front of a lent array, and
@@ -90,6 +109,9 @@ pub extern "C" fn zumbeiry_convert(text: &[u8], sheet: &mut [u8], answer: &mut [
     ensures unchanged { Unchanged text.now text.now }
 {
     let x = convert_text(text, sheet);
-    put_three(answer, x.refusal, x.place, x.written);
+    put_front(
+        answer,
+        [u64::from(x.refusal), x.place as u64, x.written as u64],
+    );
     x.refusal
 }

@@ -1,11 +1,12 @@
 // The lent buffer at the end: a sheet with zeros behind it, or zeros only.
-ghost use Rattle.std.specs.Prelude.{◌≡◌, ◌≤◌, length};
-ghost use Rattle.text.specs.Convert.{converted_with};
+ghost use Rattle.std.specs.Prelude.{◌≡◌, ◌++◌, ◌-◌, ◌≤◌, length, replicate};
+ghost use Rattle.rules.specs.Refusal.{number};
+ghost use Rattle.refusal.specs.Shape.{rule_of};
 ghost use Rattle.convert.specs.Shape.{conversion_of, refused_by};
 
-use writing::{put_bytes, put_zeros};
+use refusal::Fault;
 
-// Refusal 0: so many bytes were written. Another: the place in the text, and zeros.
+// What the call tells, as the numbers that C gets. Refusal 0: so many bytes were written. Another: the place in the text, and zeros.
 #[derive(Clone, Copy)]
 pub struct Conversion {
     pub refusal: u32,
@@ -14,26 +15,22 @@ pub struct Conversion {
 }
 
 // A sheet that fits, and zeros behind it.
-pub(crate) fn fill(sheet: &mut [u8], bytes: &[u8]) -> Conversion
+pub(crate) fn fill(sheet: &mut [u8], bytes: &[u8])
     requires { length bytes.now ≤ length sheet.old }
-    ensures { conversion_of result sheet.new ≡ converted_with (length sheet.old) bytes.now }
+    ensures { sheet.new ≡ bytes.now ++ replicate (length sheet.old - length bytes.now) 0 }
 {
-    let end = put_bytes(sheet, 0, bytes);
-    put_zeros(sheet, end);
-    Conversion {
-        refusal: 0,
-        place: 0,
-        written: bytes.len(),
-    }
+    let (front, rest) = sheet.split_at_mut(bytes.len());
+    front.copy_from_slice(bytes);
+    rest.fill(0);
 }
 
-pub(crate) fn refuse(sheet: &mut [u8], refusal: u32, place: usize) -> Conversion
-    ensures { conversion_of result sheet.new ≡ refused_by (length sheet.old) refusal place }
+pub(crate) fn refuse(sheet: &mut [u8], fault: Fault) -> Conversion
+    ensures { conversion_of result sheet.new ≡ refused_by (length sheet.old) (number (rule_of fault.refusal)) fault.place }
 {
-    put_zeros(sheet, 0);
+    sheet.fill(0);
     Conversion {
-        refusal,
-        place,
+        refusal: u32::from(fault.refusal),
+        place: fault.place,
         written: 0,
     }
 }

@@ -7,7 +7,7 @@ ghost use Rattle.text.specs.Convert.{Piece};
 ghost use Rattle.lines.specs.Writing.{due_of, OnwardField};
 ghost use Rattle.convert.specs.Whole.{place_in, Pieces, Stands, Lays, SoFar, MadeFrom, Makes, made_place};
 
-use crate::head::{Head, head_at};
+use crate::head::head_at;
 use lines::fields::put_none;
 use lines::{Due, Field, line_at};
 use scan::past;
@@ -22,29 +22,23 @@ pub(crate) struct Written {
     pub fits: bool,
 }
 
-// The same of a text that was read; or the place of the first byte that cannot go on.
-#[derive(Clone, Copy)]
-pub(crate) enum Made {
-    Took(usize, usize, usize, bool),
-    Stop(usize),
-}
-
 // Where the next field goes in a buffer of this length: to its end, if the whole of the fields before has no room in it.
 fn field_place(from: usize, whole: usize, len: usize) -> usize
     ensures value { result ≡ place_in len from whole }
     ensures upper_bound { result ≤ len }
 {
-    if len < whole {
-        return len;
-    }
-    if from < len {
-        return from;
-    }
-    len
+    if len < whole { len } else { from.min(len) }
 }
 
 // A line, with its field behind the bytes up to a place: those are kept, whatever its numbers are.
-fn line_behind(s: &[u8], p: usize, due: Due, out: &mut [u8], from: usize, whole: usize) -> Field
+fn line_behind(
+    s: &[u8],
+    p: usize,
+    due: Due,
+    out: &mut [u8],
+    from: usize,
+    whole: usize,
+) -> Result<Field, usize>
     requires { (p ≤ length s.now) × (length out.old < 65536) }
     ensures lays { Lays s.now out.old from whole out.new (read_line (due_of due) (drop p s.now)) result }
     ensures onward_field { OnwardField s.now p 0 result }
@@ -76,46 +70,41 @@ fn settled(
     fits: bool,
 ) -> Written
     requires { (w.end ≤ 65536) × (w.whole ≤ 65536) × (size ≤ 65536) × (length out.old < 65536) }
-    ensures so_far { (xs : Pieces) (x : Piece) → SoFar xs out.old target w → x.start ≡ start → x.fits ≡ fits → size ≡ min (length x.whole) 65536
-        → (w.whole ≤ length out.old → Stands out.old w.end x.whole fits) → SoFar (xs ++ (x ∷ [])) out.new target result }
+    ensures so_far { (xs : Pieces) (x : Piece) → SoFar xs out.old target w → x.start ≡ start → x.fits ≡ fits
+        → size ≡ min (length x.whole) 65536 → (w.whole ≤ length out.old → Stands out.old w.end x.whole fits)
+        → SoFar (xs ++ (x ∷ [])) out.new target result }
     ensures end_bound { (result.end ≤ 65536) × (result.whole ≤ 65536) }
 {
-    let from = w.end;
-    let put = closed(out, from, size, fits);
-    let to = past(from, put);
+    let end = past(w.end, closed(out, w.end, size, fits));
     let whole = past(w.whole, size);
-    if from <= target {
-        if target < to {
-            return Written {
-                end: to,
-                whole,
-                start,
-                fits,
-            };
+    if (w.end..end).contains(&target) {
+        Written {
+            end,
+            whole,
+            start,
+            fits,
         }
-    }
-    Written {
-        end: to,
-        whole,
-        start: w.start,
-        fits: w.fits,
+    } else {
+        Written { end, whole, ..w }
     }
 }
 
 // A text may end where a statement is due and nothing is left.
+#[tactic(auto, unfolding(text::specs::Lines::may_end))]
 fn is_over(s: &[u8], q: usize, due: Due) -> bool
     requires { q ≤ length s.now }
     ensures { result ≡ may_end (due_of due) (drop q s.now) }
 {
-    match due {
-        Due::Locks => false,
-        Due::Var => false,
-        Due::Reg => false,
-        Due::Statement => s.len() <= q,
-    }
+    due == Due::Statement && s.len() <= q
 }
 
-fn lines_at(s: &[u8], p: usize, out: &mut [u8], first: Written, target: usize) -> Made
+fn lines_at(
+    s: &[u8],
+    p: usize,
+    out: &mut [u8],
+    first: Written,
+    target: usize,
+) -> Result<Written, usize>
     requires { (p ≤ length s.now) × (first.end ≤ 65536) × (first.whole ≤ 65536) × (length out.old < 65536) }
     ensures made_from { (x : Piece) → SoFar (x ∷ []) out.old target first
         → MadeFrom x s.now out.new target (read_lines (length s.now) (length (drop p s.now)) locks_due (drop p s.now)) result }
@@ -124,45 +113,31 @@ fn lines_at(s: &[u8], p: usize, out: &mut [u8], first: Written, target: usize) -
     let mut w = first;
     let mut q = p;
     let mut due = Due::Locks;
-    loop {
-        if is_over(s, q, due) {
-            return Made::Took(w.end, w.whole, w.start, w.fits);
-        }
-        let x = line_behind(s, q, due, out, w.end, w.whole);
-        match x {
-            Field::Stop(t) => {
-                return Made::Stop(t);
-            }
-            Field::Took(d, t, size, fits) => {
-                w = settled(out, w, target, q, size, fits);
-                q = t;
-                due = d;
-            }
-        }
+    while !is_over(s, q, due) {
+        let x = line_behind(s, q, due, out, w.end, w.whole)?;
+        w = settled(out, w, target, q, x.end, x.fits);
+        q = x.place;
+        due = x.due;
     }
+    Ok(w)
 }
 
 // Bytes of the header's field.
 const HEADER_BYTES: usize = 19;
 
 // The whole text.
-pub(crate) fn text_at(s: &[u8], out: &mut [u8], target: usize) -> Made
+pub(crate) fn text_at(s: &[u8], out: &mut [u8], target: usize) -> Result<Written, usize>
     requires { length out.old < 65536 }
     ensures makes { Makes s.now out.new target result }
     ensures result_in_bounds { made_place result ≤ length s.now }
 {
-    let h = head_at(s, out);
-    match h {
-        Head::Stop(q) => Made::Stop(q),
-        Head::Took(q, start, fits) => {
-            let none = Written {
-                end: 0,
-                whole: 0,
-                start: 0,
-                fits: true,
-            };
-            let w = settled(out, none, target, start, HEADER_BYTES, fits);
-            lines_at(s, q, out, w, target)
-        }
-    }
+    let h = head_at(s, out)?;
+    let none = Written {
+        end: 0,
+        whole: 0,
+        start: 0,
+        fits: true,
+    };
+    let first = settled(out, none, target, h.start, HEADER_BYTES, h.fits);
+    lines_at(s, h.place, out, first, target)
 }

@@ -1,5 +1,5 @@
 -- Numbers in digits: each is written by its own decimal, a cut goes through the digits behind it, and a loop stands at a digit.
-use Rattle.std.specs.Prelude.{if◌then◌else◌}
+use Rattle.std.specs.Prelude.{if◌then◌else◌, Some, None}
 use mathlib.Core.Path.{◌≡◌, refl, sym, ap, subst, ◌∙◌}
 use mathlib.Core.Bool.{Bool, true, false, ◌&&◌}
 use mathlib.Core.List.{[], ◌∷◌, ◌++◌}
@@ -14,7 +14,6 @@ use borrow.Author.Tests.{le-leb, lt-leb, lt-ltb, le-ltb}
 use Rattle.rules.specs.Base.{all}
 use Rattle.rules.specs.Format.{Bytes}
 use Rattle.rules.specs.Product.{decimal_in, decimal}
-use Rattle.digits.specs.declared.Number.TheVariants.{Is, Wrong}
 use Rattle.digits.specs.Digits.{is_digit, are_digits, with_digit, value_from, value, DecimalsRead, top, cut, number_from, number_in}
 
 -- ---- every number is written by its own decimal
@@ -68,10 +67,10 @@ decimal-writes (suc k) n h = elim (dec_lt n 10) [
       (more-write n (decimal_in k (n / 10)) (decimal-writes k (n / 10) (omega arith)))
 ]
 
-number-written : (n : ℕ) (ds : Bytes) → Write n ds → number_in ds ≡ Is (cut n)
+number-written : (n : ℕ) (ds : Bytes) → Write n ds → number_in ds ≡ Some (cut n)
 unfolding number_in
 number-written n [] w = let h = w.some in absurd (omega arith)
-number-written n (d ∷ ds) w = rw w.digits (ap (λ (m : ℕ). Is (cut m)) w.writes)
+number-written n (d ∷ ds) w = rw w.digits (ap (λ (m : ℕ). Some (cut m)) w.writes)
 
 pub decimals-read : DecimalsRead
 unfolding decimal
@@ -114,7 +113,7 @@ cut-from (d ∷ ds) n =
 abbrev pub SoFar : Bytes → ℕ → ℕ → Type 0
 SoFar ds n i = (number_in ds ≡ number_from n (drop i ds)) × (n ≤ top)
 
-pub no-digits : (ds : Bytes) → length ds ≡ 0 → Wrong ≡ number_in ds
+pub no-digits : (ds : Bytes) → length ds ≡ 0 → None ≡ number_in ds
 unfolding number_in
 no-digits [] h = refl
 no-digits (d ∷ ds) h = absurd (omega arith)
@@ -125,9 +124,9 @@ digits-start [] h = absurd (h refl)
 digits-start (d ∷ ds) h = (refl, omega arith)
 
 module _ (ds : Bytes) (n i : ℕ) (so_far : SoFar ds n i) where
-  pub digits-over : length ds ≤ i → Is n ≡ number_in ds
+  pub digits-over : length ds ≤ i → Some n ≡ number_in ds
   unfolding all value_from
-  digits-over h = sym (so_far.0 ∙ ap (number_from n) (drop_of_length-le ds h) ∙ ap Is (cut_small n so_far.1))
+  digits-over h = sym (so_far.0 ∙ ap (number_from n) (drop_of_length-le ds h) ∙ ap Some (cut_small n so_far.1))
 
   module _ (h : i < length ds) where
     abbrev d : ℕ
@@ -138,23 +137,26 @@ module _ (ds : Bytes) (n i : ℕ) (so_far : SoFar ds n i) where
 
     -- by the tests on the next digit
     next : {a b : Bool} → leb 48 d ≡ a → leb d 57 ≡ b
-        → number_in ds ≡ (if (a && b) && are_digits rest then Is (cut (value_from (with_digit n d) rest)) else Wrong)
+        → number_in ds ≡ (if (a && b) && are_digits rest then Some (cut (value_from (with_digit n d) rest)) else None)
     unfolding all value_from
     next e f =
         so_far.0 ∙ ap (number_from n) (drop-cons ds i 0 h)
-        ∙ (λ t. if (e t && f t) && are_digits rest then Is (cut (value_from (with_digit n d) rest)) else Wrong)
+        ∙ (λ t. if (e t && f t) && are_digits rest then Some (cut (value_from (with_digit n d) rest)) else None)
 
-    pub below-digits : d < 48 → Wrong ≡ number_in ds
+    pub below-digits : d < 48 → None ≡ number_in ds
     below-digits l = sym (next (lt-leb 48 d l) refl)
 
-    pub above-digits : 48 ≤ d → 57 < d → Wrong ≡ number_in ds
+    pub above-digits : 48 ≤ d → 57 < d → None ≡ number_in ds
     above-digits l m = sym (next (le-leb 48 d l) (lt-leb d 57 m))
 
     pub one_more : 48 ≤ d → d ≤ 57 → (m : ℕ) → m ≡ cut (with_digit n d) → SoFar ds m (i + 1)
     one_more l u m e =
         let s : suc i ≡ i + 1 = omega arith in (
           next (le-leb 48 d l) (le-leb d 57 u)
-              ∙ ap (λ (x : ℕ). if are_digits rest then Is x else Wrong) (sym (cut-from rest (with_digit n d)) ∙ ap (λ (x : ℕ). cut (value_from x rest)) (sym e))
+              ∙ ap (λ (x : ℕ). if are_digits rest then Some x else None) (sym (cut-from rest (with_digit n d)) ∙ ap (λ (x : ℕ). cut (value_from x rest)) (sym e))
               ∙ ap (λ (j : ℕ). number_from m (drop j ds)) s,
           omega (arith, cut_below (with_digit n d)),
         )
+
+-- what the search is given for `number_in`
+pub ruleset word_laws = (no-digits, digits-start, digits-over, below-digits, above-digits)

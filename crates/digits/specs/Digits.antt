@@ -1,10 +1,8 @@
 -- Numbers in decimal digits, as a word writes them.
-use Rattle.std.specs.Prelude.{◌≡◌, Bool, ◌&&◌, [], ◌∷◌, ℕ, ◌+◌, ◌-◌, ◌*◌, leb, if◌then◌else◌}
+use Rattle.std.specs.Prelude.{◌≡◌, Bool, ◌&&◌, [], ◌∷◌, ℕ, ◌+◌, ◌-◌, ◌*◌, leb, if◌then◌else◌, Option, Some, None}
 use Rattle.rules.specs.Base.{all}
 use Rattle.rules.specs.Format.{Bytes}
 use Rattle.rules.specs.Product.{decimal}
-use Rattle.digits.specs.declared.Number.{Number}
-use Rattle.digits.specs.declared.Number.TheVariants.{Is, Wrong}
 
 -- ---- the number that digits write, of any size
 
@@ -35,14 +33,14 @@ top = 65536
 unfoldable pub cut : ℕ → ℕ
 cut n = if leb n top then n else top
 
-abbrev pub number_from : ℕ → Bytes → Number
-number_from n ds = if are_digits ds then Is (cut (value_from n ds)) else Wrong
+abbrev pub number_from : ℕ → Bytes → Option ℕ
+number_from n ds = if are_digits ds then Some (cut (value_from n ds)) else None
 
 -- a word of at least one digit
-unfoldable pub number_in : Bytes → Number
-number_in [] = Wrong
+unfoldable pub number_in : Bytes → Option ℕ
+number_in [] = None
 number_in (d ∷ ds) = number_from 0 (d ∷ ds)
 
 -- the claim: every number is read from its own decimal
 abbrev pub DecimalsRead : Type 0
-DecimalsRead = (n : ℕ) → number_in (decimal n) ≡ Is (cut n)
+DecimalsRead = (n : ℕ) → number_in (decimal n) ≡ Some (cut n)

@@ -1,5 +1,5 @@
 -- The event of a thread: its owners, the state that it makes, and what the rules' effect is there. Assumes nothing.
-use Rattle.std.specs.Prelude.{if◌then◌else◌}
+use Rattle.std.specs.Prelude.{if◌then◌else◌, Result, Ok, Err}
 use mathlib.Core.Path.{◌≡◌, refl, sym, ap, subst, ◌∙◌}
 use mathlib.Core.Bool.{true, false}
 use mathlib.Core.Option.{Option, none}
@@ -26,18 +26,18 @@ use Rattle.state.specs.declared.Thread.{Thread}
 use Rattle.state.specs.declared.State.{State}
 use Rattle.state.specs.declared.moves.Move.{Move}
 use Rattle.state.specs.Access.{thread_at, owner_at, with_var, with_owner}
-use Rattle.state.specs.Move.{MoveFits, moved_to}
+use Rattle.state.specs.Cells.{decode}
+use Rattle.state.specs.Move.{moved_to}
 use Rattle.state.specs.Shape.{Sizes, owner_of, thread_of, state_of}
 use Rattle.state.proofs.Shape.{state-owner, moved-state, moved-var-state, moved-owner-state}
 use Rattle.event.specs.declared.act.Event.{Event}
-use Rattle.event.specs.declared.act.Acted.TheVariants as acted
 use Rattle.event.specs.Push.{Pushed}
-use Rattle.event.specs.Act.{Ticks, Acts, move_to, moved_by, moved_with}
+use Rattle.event.specs.Act.{Acts, move_to, moved_by, moved_with}
 use Rattle.event.proofs.PushLaws.{then-pushed}
 
 -- ---- owners
 
-pub free-may : (t o : ℕ) → o ≡ 0 → true ≡ may_take t (owner_of o)
+pub free-may : (t o : ℕ) → o ≡ 0 → eqb o 0 ≡ may_take t (owner_of o)
 unfolding may_take
 free-may t o e = rw e
 
@@ -58,24 +58,40 @@ kept-owner t (suc u) h = rw (ne_eqb u t (λ e. h (ap suc e)))
 -- ---- the state that an event makes
 
 module _ (s : State) (v : Event) (at : ℕ) (regs : List Span) (z : Sizes) where
-  pub moved-is : state_of z (moved_to s (move_to v at) regs) ≡ moved_by z s v at (regs_of (get_or z.regs v.thread 0) regs)
+  moved-is : state_of z (moved_to s (move_to v at) regs) ≡ moved_by z s v at (regs_of (get_or z.regs v.thread 0) regs)
   moved-is = moved-state z s v.thread at (record { low = v.from; high = v.to }) regs
 
 module _ (s : State) (v : Event) (at : ℕ) (z : Sizes) where
-  pub moved-var-is : (k : ℕ) (i : Span) → state_of z (with_var (moved_to s (move_to v at) (thread_at s v.thread).regs) k i)
+  moved-var-is : (k : ℕ) (i : Span) → state_of z (with_var (moved_to s (move_to v at) (thread_at s v.thread).regs) k i)
       ≡ moved_with z s v at (set (state_of z s).vars k (interval_of i)) (state_of z s).owners
   moved-var-is k i = moved-var-state z s v.thread at (record { low = v.from; high = v.to }) (thread_at s v.thread).regs k i
 
-  pub moved-owner-is : (l o : ℕ) → state_of z (with_owner (moved_to s (move_to v at) (thread_at s v.thread).regs) l o)
+  moved-owner-is : (l o : ℕ) → state_of z (with_owner (moved_to s (move_to v at) (thread_at s v.thread).regs) l o)
       ≡ moved_with z s v at (state_of z s).vars (set (state_of z s).owners l (owner_of o))
   moved-owner-is l o = moved-owner-state z s v.thread at (record { low = v.from; high = v.to }) (thread_at s v.thread).regs l o
 
 pub pushed-as : {z : Sizes} {slots : ℕ} {b c : List ℤ} {h k : ℕ} {x y : S.State} → x ≡ y → Pushed z slots b c h k (x ∷ []) → Pushed z slots b c h k (y ∷ [])
 pushed-as {z} {slots} {b} {c} {h} {k} e p = subst (λ (w : S.State). Pushed z slots b c h k (w ∷ [])) e p
 
--- what the code asks of a move
-pub move-fits : (v : Event) (m : Move) (at : ℕ) → Ticks v → m ≡ move_to v at → MoveFits m
-move-fits v m at t e = subst MoveFits (sym e) (record { thread = t.thread; low = t.from_small; high = t.to_small })
+pub acts-as : (z : Sizes) (slots : ℕ) (b : List ℤ) {c d : List ℤ} (h : ℕ) (r : Result ℕ Refusal) (x : S.Next) → c ≡ d → Acts z slots b d h r x → Acts z slots b c h r x
+acts-as z slots b h r x e p = subst (λ (l : List ℤ). Acts z slots b l h r x) (sym e) p
+
+-- what a move wrote into a slot is the state in which the mover stands there, with registers by its number, a variable or an owner
+module _ {z : Sizes} {slots : ℕ} {b c : List ℤ} {h k : ℕ} (new : List ℤ) {m : Move} (s : State) (v : Event) (at : ℕ) (is : m ≡ move_to v at)
+    (p : Pushed z slots b c h k (state_of z (decode new) ∷ [])) where
+  pub moved-pushed : (regs : ℕ → List Span) → decode new ≡ moved_to s m (regs m.thread)
+      → Pushed z slots b c h k (moved_by z s v at (regs_of (get_or z.regs v.thread 0) (regs v.thread)) ∷ [])
+  moved-pushed regs e = pushed-as (ap (state_of z) (e ∙ ap (λ (x : Move). moved_to s x (regs x.thread)) is) ∙ moved-is s v at (regs v.thread) z) p
+
+  pub variable-pushed : (x : ℕ) (i : Span) → decode new ≡ with_var (moved_to s m (thread_at s m.thread).regs) x i
+      → Pushed z slots b c h k (moved_with z s v at (set (state_of z s).vars x (interval_of i)) (state_of z s).owners ∷ [])
+  variable-pushed x i e =
+      pushed-as (ap (state_of z) (e ∙ ap (λ (y : Move). with_var (moved_to s y (thread_at s y.thread).regs) x i) is) ∙ moved-var-is s v at z x i) p
+
+  pub owner-pushed : (l o : ℕ) → decode new ≡ with_owner (moved_to s m (thread_at s m.thread).regs) l o
+      → Pushed z slots b c h k (moved_with z s v at (state_of z s).vars (set (state_of z s).owners l (owner_of o)) ∷ [])
+  owner-pushed l o e =
+      pushed-as (ap (state_of z) (e ∙ ap (λ (y : Move). with_owner (moved_to s y (thread_at s y.thread).regs) l o) is) ∙ moved-owner-is s v at z l o) p
 
 -- ---- locks
 
@@ -92,14 +108,14 @@ module _ (z : Sizes) (s : State) (v : Event) (l : ℕ) (there : l < z.locks) whe
       S.moved (state_of z s) v.thread (if may_take v.thread o then suc x.at else x.at) v.from.0 v.to.0
       (regs_of (get_or z.regs v.thread 0) x.regs) (state_of z s).vars (set (state_of z s).owners l (after_lock v.thread o))
 
-  pub unlocks : (at o : ℕ) → at ≡ suc x.at → owner_of o ≡ after_unlock v.thread (owner_of (owner_at s l))
-      → moved_with z s v at (state_of z s).vars (set (state_of z s).owners l (owner_of o)) ≡ unlocked_from (get_or (state_of z s).owners l none)
-  unlocks at o ea eo = rw (state-owner z s l there, ea, eo)
+  pub unlocks : (o : ℕ) → owner_of o ≡ after_unlock v.thread (owner_of (owner_at s l))
+      → moved_with z s v (suc x.at) (state_of z s).vars (set (state_of z s).owners l (owner_of o)) ≡ unlocked_from (get_or (state_of z s).owners l none)
+  unlocks o eo = rw (state-owner z s l there, eo)
 
-  pub locks : (at o : ℕ) → at ≡ suc x.at → o ≡ suc v.thread → may_take v.thread (owner_of (owner_at s l)) ≡ true
-      → moved_with z s v at (state_of z s).vars (set (state_of z s).owners l (owner_of o)) ≡ locked_from (get_or (state_of z s).owners l none)
+  pub locks : (o : ℕ) → o ≡ suc v.thread → may_take v.thread (owner_of (owner_at s l)) ≡ true
+      → moved_with z s v (suc x.at) (state_of z s).vars (set (state_of z s).owners l (owner_of o)) ≡ locked_from (get_or (state_of z s).owners l none)
   unfolding after_lock
-  locks at o ea eo may = rw (state-owner z s l there, may, ea, eo)
+  locks o eo may = rw (state-owner z s l there, may, eo)
 
   pub waits-on : (at : ℕ) → at ≡ x.at → may_take v.thread (owner_of (owner_at s l)) ≡ false
       → moved_by z s v at (regs_of (get_or z.regs v.thread 0) x.regs) ≡ locked_from (get_or (state_of z s).owners l none)
@@ -114,22 +130,22 @@ module _ (z : Sizes) (slots : ℕ) (b : List ℤ) (h : ℕ) (s : State) (v : Eve
   -- an assignment of a, and a branch on a
   module _ (r : ℕ) (a : P.Arith) where
     pub assign-faults : (q : Refusal) → fault (rule_of q) ≡ evaluate a (regs_of v.registers x.regs)
-        → Acts z slots b b h (acted.Fault q) (effect (state_of z s) v.thread (thread_of v.registers x) v.from.0 v.to.0 (P.assign r a))
+        → Acts z slots b b h (Err q) (effect (state_of z s) v.thread (thread_of v.registers x) v.from.0 v.to.0 (P.assign r a))
     unfolding effect from_value
-    assign-faults q e = rw (sym e) (ap acted.Fault (sym (refusal-of-rule q)), refl)
+    assign-faults q e = rw (sym e) (ap Err (sym (refusal-of-rule q)), refl)
 
     pub assigns : (c : List ℤ) (k : ℕ) (i : Span) → get_or z.regs v.thread 0 ≡ v.registers
         → value (interval_of i) ≡ evaluate a (regs_of v.registers x.regs)
         → Pushed z slots b c h k (moved_by z s v (suc x.at) (set (regs_of (get_or z.regs v.thread 0) x.regs) r (interval_of i)) ∷ [])
-        → Acts z slots b c h (acted.Height k) (effect (state_of z s) v.thread (thread_of v.registers x) v.from.0 v.to.0 (P.assign r a))
+        → Acts z slots b c h (Ok k) (effect (state_of z s) v.thread (thread_of v.registers x) v.from.0 v.to.0 (P.assign r a))
     unfolding effect from_value
     assigns c k i n e p = rw (sym e) (k, refl, rw n at p)
 
   module _ (to : ℕ) (a : P.Condition) where
     pub branch-faults : (q : Refusal) → fault (rule_of q) ≡ all_parts a (regs_of v.registers x.regs)
-        → Acts z slots b b h (acted.Fault q) (effect (state_of z s) v.thread (thread_of v.registers x) v.from.0 v.to.0 (P.branch to a))
+        → Acts z slots b b h (Err q) (effect (state_of z s) v.thread (thread_of v.registers x) v.from.0 v.to.0 (P.branch to a))
     unfolding effect branches
-    branch-faults q e = rw (sym e) (ap acted.Fault (sym (refusal-of-rule q)), refl)
+    branch-faults q e = rw (sym e) (ap Err (sym (refusal-of-rule q)), refl)
 
     pub branches-on : (c d : List ℤ) (k m on : ℕ) (taken passed : ℕ → Option Regs) → get_or z.regs v.thread 0 ≡ v.registers → on ≡ suc x.at
         → value tt ≡ all_parts a (regs_of v.registers x.regs)
@@ -137,7 +153,7 @@ module _ (z : Sizes) (slots : ℕ) (b : List ℤ) (h : ℕ) (s : State) (v : Eve
         → passed v.registers ≡ narrow_no a (regs_of v.registers x.regs)
         → Pushed z slots b c h k (unless_empty (λ rs. moved_by z s v on rs) (passed (get_or z.regs v.thread 0)))
         → Pushed z slots c d k m (unless_empty (λ rs. moved_by z s v to rs) (taken (get_or z.regs v.thread 0)))
-        → Acts z slots b d h (acted.Height m) (effect (state_of z s) v.thread (thread_of v.registers x) v.from.0 v.to.0 (P.branch to a))
+        → Acts z slots b d h (Ok m) (effect (state_of z s) v.thread (thread_of v.registers x) v.from.0 v.to.0 (P.branch to a))
     unfolding effect branches
     branches-on c d k m on taken passed n eo e ey en p q =
         let p' : Pushed z slots b c h k (unless_empty (λ rs. moved_by z s v (suc x.at) rs) (narrow_no a (regs_of v.registers x.regs))) =

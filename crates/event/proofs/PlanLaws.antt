@@ -1,4 +1,5 @@
 -- The plan of a sheet that reads, from its index.
+use Rattle.std.specs.Prelude.{Ok}
 use mathlib.Core.Path.{◌≡◌, sym, subst}
 use Rattle.rules.specs.Program.{Program}
 use Rattle.rules.specs.Format.{Bytes, read_sheet}
@@ -7,10 +8,10 @@ use Rattle.reader.specs.Index.{index_of}
 use Rattle.reader.proofs.Facts.{accepted, program-facts, program-is, index-facts}
 use Rattle.event.specs.Plan.{Planned, Ready}
 
-module _ (s : Bytes) (i : Index) (h : i ≡ index_of (read_sheet s)) (fine : i.refusal ≡ 0) where
+module _ (s : Bytes) (i : Index) (h : index_of (read_sheet s) ≡ Ok i) where
   pub ready : Ready s (record { threads = i.threads; limit = i.limit; entries = i.entries }) i.places
   ready =
-      let a = accepted (read_sheet s) h fine in
+      let a = accepted (read_sheet s) h in
       let f = index-facts a.0 a.1 h a.2 in
       subst (λ (g : Program). Planned s g (record { threads = i.threads; limit = i.limit; entries = i.entries }) i.places) (sym (program-is s a.0 a.1 a.2))
       (record {

@@ -3,3 +3,4 @@ pub mod Plan
 pub mod Fetch
 pub mod Push
 pub mod Act
+pub mod Stack

@@ -23,12 +23,11 @@ pub struct Fetched {
 fn none() -> Fetched
     ensures { (s : Bytes) (ns : Names) (at : ℕ) → Fetches s ns at no_statement result }
 {
-    let halt = Action::Halt;
     Fetched {
         place: 0,
         least: Time(0),
         greatest: Time(0),
-        action: halt,
+        action: Action::Halt,
     }
 }
 
@@ -38,14 +37,11 @@ fn fetch_at(sheet: &[u8], place: usize) -> Fetched
         → Targets most_statements x.action → Fetches sheet.now ns at x result }
 {
     let x = statement_at(sheet, place);
-    let least = x.least;
-    let greatest = x.greatest;
-    let action = x.action;
     Fetched {
-        place: place,
-        least: least,
-        greatest: greatest,
-        action: action,
+        place,
+        least: x.least,
+        greatest: x.greatest,
+        action: x.action,
     }
 }
 
@@ -54,15 +50,12 @@ pub fn fetch(sheet: &[u8], places: &[u16; MOST_PLACES], plan: Plan, t: usize, at
     requires { Ready sheet.now plan places.now × (t < length (program_in sheet.now).threads) }
     ensures { Fetches sheet.now (names_of (program_in sheet.now) t) at (statement_in (program_in sheet.now) t at) result }
 {
-    let entry = plan.entries[t];
-    let k = at as usize;
-    let count = entry.statements as usize;
-    if count <= k {
-        return none();
+    let k = usize::from(at);
+    if k < usize::from(plan.entries[t].statements) {
+        fetch_at(sheet, usize::from(places[t * MOST_STATEMENTS + k]))
+    } else {
+        none()
     }
-    let i = t * MOST_STATEMENTS + k;
-    let place = places[i] as usize;
-    fetch_at(sheet, place)
 }
 
 // The number of the next statement.

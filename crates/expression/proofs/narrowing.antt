@@ -1,2 +1,3 @@
--- What the proofs of several functions of `narrowing` cite.
+-- What the proofs of several functions of `narrowing` cite: of walks (Laws), and of the join of registers (Joins).
 pub mod Laws
+pub mod Joins

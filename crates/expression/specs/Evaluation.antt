@@ -1,14 +1,13 @@
 -- What evaluation gives, from the rules' evaluation of the tree that the same bytes read as.
-use Rattle.std.specs.Prelude.{Bool, List, map, ℕ, take, if◌then◌else◌}
-use Rattle.rules.specs.Refusal.{Result}
+use Rattle.std.specs.Prelude.{List, map, ℕ, take, Option, Some, None, Result}
+use Rattle.rules.specs.Refusal as R
 use Rattle.rules.specs.Interval.{Interval}
 use Rattle.rules.specs.Program.{Arith}
 use Rattle.rules.specs.Format.{Got, bad, got}
 use Rattle.rules.specs.Expression.{Regs, evaluate}
+use Rattle.refusal.specs.declared.Refusal.{Refusal}
 use Rattle.interval.specs.declared.Span.{Span}
 use Rattle.interval.specs.Shape.{interval_of, result_of}
-use Rattle.expression.specs.declared.evaluation.Evaluated.{Evaluated}
-use Rattle.expression.specs.declared.evaluation.Evaluated.TheVariants.{Read, Unread}
 
 -- the first n of the code's eight registers are the thread's
 unfoldable pub regs_of : ℕ → List Span → Regs
@@ -23,21 +22,15 @@ abbrev pub found_of : {A B : Type 0} → (A → B) → Got A → Found B
 found_of f (bad r p) = unread
 found_of f (got a q) = read (f a) q
 
--- a flag that says whether there is a tree, with what was worked out on it
-abbrev pub seen : {A : Type 0} → Bool → A → ℕ → Found A
-seen t a q = if t then read a q else unread
-
--- two of them, one behind the other
-abbrev pub both_found : {A B C : Type 0} → (A → B → C) → Found A → Found B → Found C
-both_found f unread y = unread
-both_found f (read a q) unread = unread
-both_found f (read a q) (read b r) = read (f a b) r
+-- the code's pair of what was worked out and the place behind it, read by f
+abbrev pub seen : {A B : Type 0} → (A → B) → Option (A × ℕ) → Found B
+seen f None = unread
+seen f (Some (a, q)) = read (f a) q
 
 -- ---- evaluation
 
-abbrev pub evaluated_of : Evaluated → Found (Result Interval)
-evaluated_of (Read v q) = read (result_of v) q
-evaluated_of Unread = unread
+abbrev pub evaluated_of : Option (Result Span Refusal × ℕ) → Found (R.Result Interval)
+evaluated_of o = seen result_of o
 
-abbrev pub evaluated_in : Regs → Got Arith → Found (Result Interval)
+abbrev pub evaluated_in : Regs → Got Arith → Found (R.Result Interval)
 evaluated_in rs g = found_of (λ a. evaluate a rs) g

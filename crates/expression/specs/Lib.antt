@@ -6,3 +6,4 @@ pub mod Parts
 pub mod Comparison
 pub mod Narrowing
 pub mod Whole
+pub mod Walk

@@ -1,15 +1,16 @@
 -- What narrowing by a condition gives, from the rules' narrowing by the tree that the same bytes read as.
-use Rattle.std.specs.Prelude.{Bool, true, false, ℕ}
+use Rattle.std.specs.Prelude.{Bool, true, false, List, ℕ}
+use Rattle.std.specs.Prelude as P
 use Rattle.std.proofs.Math.Option.{Option, none, some}
 use Rattle.rules.specs.Program.{Condition}
 use Rattle.rules.specs.Expression.{Regs, narrow_yes, narrow_no}
 use Rattle.rules.specs.Format.{Got}
-use Rattle.expression.specs.Evaluation.{Found, found_of, seen, regs_of}
-use Rattle.expression.specs.Comparison.{unless_flagged}
-use Rattle.expression.specs.declared.narrowing.NarrowedAt.{NarrowedAt}
+use Rattle.interval.specs.declared.Span.{Span}
+use Rattle.expression.specs.Evaluation.{Found, found_of, seen}
+use Rattle.expression.specs.Comparison.{narrowed_of}
 
-abbrev pub narrowed_at_of : ℕ → NarrowedAt → Found (Option Regs)
-narrowed_at_of n r = seen r.read (unless_flagged r.empty (regs_of n r.regs)) r.next
+abbrev pub narrowed_at_of : ℕ → P.Option (P.Option (List Span) × ℕ) → Found (Option Regs)
+narrowed_at_of n o = seen (narrowed_of n) o
 
 abbrev pub yes_in : Regs → Got Condition → Found (Option Regs)
 yes_in rs g = found_of (λ c. narrow_yes c rs) g

@@ -1,27 +1,25 @@
 -- What working out every part of a condition gives: the first fault from the left, or none.
-use Rattle.rules.specs.Refusal.{Result, value, fault, on_value, on_both}
+use Rattle.std.specs.Prelude.{ℕ, Option, Result, Ok, Err}
+use Rattle.rules.specs.Refusal as R
+use Rattle.rules.specs.Refusal.{value, fault, on_both}
 use Rattle.rules.specs.Program.{Condition}
 use Rattle.rules.specs.Format.{Got}
 use Rattle.rules.specs.Expression.{Regs, all_parts}
+use Rattle.refusal.specs.declared.Refusal.{Refusal}
 use Rattle.refusal.specs.Shape.{rule_of}
 use Rattle.expression.specs.Evaluation.{Found, found_of, seen}
-use Rattle.expression.specs.declared.parts.Check.{Check}
-use Rattle.expression.specs.declared.parts.Check.TheVariants.{Passed, Fault}
-use Rattle.expression.specs.declared.parts.Checked.{Checked}
 
-abbrev pub check_of : Check → Result (Unit {0})
-check_of Passed = value tt
-check_of (Fault r) = fault (rule_of r)
+-- whether there is a value, or the fault that stands in its way
+abbrev pub check_of : {A : Type 0} → Result A Refusal → R.Result (Unit {0})
+check_of (Ok a) = value tt
+check_of (Err r) = fault (rule_of r)
 
-abbrev pub checked_of : Checked → Found (Result (Unit {0}))
-checked_of c = seen c.read (check_of c.check) c.next
+abbrev pub checked_of : Option (Result (Unit {0}) Refusal × ℕ) → Found (R.Result (Unit {0}))
+checked_of o = seen check_of o
 
-abbrev pub parts_in : Regs → Got Condition → Found (Result (Unit {0}))
+abbrev pub parts_in : Regs → Got Condition → Found (R.Result (Unit {0}))
 parts_in rs g = found_of (λ c. all_parts c rs) g
 
--- the fault of a result, and of two the first
-abbrev pub fault_in : {A : Type 0} → Result A → Result (Unit {0})
-fault_in x = on_value (λ _. value tt) x
-
-abbrev pub first_fault : {A B : Type 0} → Result A → Result B → Result (Unit {0})
+-- of two results the first fault
+abbrev pub first_fault : {A B : Type 0} → R.Result A → R.Result B → R.Result (Unit {0})
 first_fault x y = on_both (λ _ _. value tt) x y

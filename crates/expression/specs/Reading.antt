@@ -1,15 +1,14 @@
 -- What reading gives, from the rules' reading of the same bytes.
-use Rattle.std.specs.Prelude.{ℕ}
+use Rattle.std.specs.Prelude.{ℕ, Result, Ok, Err}
 use Rattle.rules.specs.Program.{Arith, Condition}
 use Rattle.rules.specs.Format.{Bytes, Got, bad, got, and_then, read_arith}
 use Rattle.refusal.specs.Shape.{refusal_of}
-use Rattle.expression.specs.declared.reading.Parsed.{Parsed}
-use Rattle.expression.specs.declared.reading.Parsed.TheVariants.{Good, Refused}
+use Rattle.refusal.specs.declared.Refusal.{Refusal}
 
 -- where a reading ends, or its refusal
-abbrev pub parsed_of : {A : Type 0} → Got A → Parsed
-parsed_of (bad r p) = Refused (refusal_of r)
-parsed_of (got a q) = Good q
+abbrev pub parsed_of : {A : Type 0} → Got A → Result ℕ Refusal
+parsed_of (bad r p) = Err (refusal_of r)
+parsed_of (got a q) = Ok q
 
 -- the two sides of a comparison, one after the other, as the rules read them
 abbrev pub pair_at : ℕ → Bytes → ℕ → ℕ → ℕ → (Arith → Arith → Condition) → Got Condition

@@ -1,246 +1,165 @@
 // Narrowing by a comparison: the registers that its two sides name are cut by the other side's interval. Both intervals are
-// worked out before either register is cut.
-ghost use Rattle.std.specs.Prelude.{◌≡◌, ◌&&◌, ℕ, ◌≤◌, ◌<◌, length};
-ghost use Rattle.std.proofs.Math.Option.{none, some};
+// worked out before either register is cut. Each function gives the registers that are left, or none where the state is emptied.
+ghost use Rattle.std.specs.Prelude.{◌≡◌, ◌&&◌, ℕ, ◌<◌};
 ghost use Rattle.rules.specs.Constants.{most_registers};
-ghost use Rattle.rules.specs.Interval.{eq_z};
+ghost use Rattle.rules.specs.Interval.{Interval, eq_z};
 ghost use Rattle.rules.specs.Expression.{keep, on_register, equal_yes, equal_no, less_yes, less_no, compared};
 ghost use Rattle.interval.specs.Shape.{interval_of, result_of};
 ghost use Rattle.expression.specs.Evaluation.{regs_of};
-ghost use Rattle.expression.specs.Comparison.{register_at, side_at, side_of, cut_of, narrowed_of, comparison_rule};
+ghost use Rattle.expression.specs.Comparison.{side_at, side_of, narrowed_of, comparison_rule};
+ghost use Rattle.expression.specs.Walk.{registers_in};
 
 use crate::kind::{ArithKind, Relation, arith_at};
-use crate::number::index;
-use interval::{Reading, Span, Val};
-
-// ---- a side of a comparison
-
-// A side that is one register, by its number, or any other expression.
-#[derive(Clone, Copy)]
-pub(crate) enum Side {
-    Register(usize),
-    Other,
-}
-
-fn register_at(s: &[u8], p: usize, end: usize) -> Side
-    requires { (p ≤ end) × (end ≤ length s.now) }
-    ensures { result ≡ register_at s.now end p }
-{
-    if end < p + 1 {
-        return Side::Other;
-    }
-    let r = index(s[p]);
-    Side::Register(r)
-}
-
-pub(crate) fn side_at(s: &[u8], at: usize, end: usize) -> Side
-    requires { end ≤ length s.now }
-    ensures { result ≡ side_at s.now end at }
-{
-    let kind = arith_at(s, at, end);
-    match kind {
-        ArithKind::Register => register_at(s, at + 1, end),
-        ArithKind::Constant => Side::Other,
-        ArithKind::Operation(_) => Side::Other,
-        ArithKind::Unknown => Side::Other,
-    }
-}
-
-// ---- registers cut
-
-#[derive(Clone, Copy)]
-enum Cut {
-    Meet(Span),
-    AtMost(Val),
-    AtLeast(Val),
-}
-
-fn cut_span(c: Cut, k: Span) -> Span
-    ensures { interval_of result ≡ cut_of c (interval_of k) }
-{
-    match c {
-        Cut::Meet(m) => interval::meet(k, m),
-        Cut::AtMost(z) => interval::cut_above(z, k),
-        Cut::AtLeast(z) => interval::cut_below(z, k),
-    }
-}
-
-// The registers that are left, unless narrowing emptied the state: then regs says nothing.
-#[derive(Clone, Copy)]
-pub struct Narrowed {
-    pub empty: bool,
-    pub regs: [Span; 8],
-}
-
-pub(crate) fn kept(regs: [Span; 8]) -> Narrowed
-    ensures { (n : ℕ) → narrowed_of n result ≡ some (regs_of n regs) }
-{
-    Narrowed {
-        empty: false,
-        regs: regs,
-    }
-}
-
-pub(crate) fn emptied(regs: [Span; 8]) -> Narrowed
-    ensures { (n : ℕ) → narrowed_of n result ≡ none }
-{
-    Narrowed {
-        empty: true,
-        regs: regs,
-    }
-}
+use crate::walk::Walk;
+use interval::Span;
+use refusal::Refusal;
 
 // Register i becomes k: a register narrowed to nothing empties the state.
-fn keep_at(regs: [Span; 8], i: usize, k: Span) -> Narrowed
+#[tactic(auto, using(crate::proofs::comparison::Laws::regs_set), unfolding(rules::specs::Expression::keep))]
+fn keep_at(mut regs: [Span; 8], i: usize, k: Span) -> Option<[Span; 8]>
     requires { i < most_registers }
     ensures { (n : ℕ) → i < n → narrowed_of n result ≡ keep (regs_of n regs) i (interval_of k) }
 {
     if interval::at_most(k.low, k.high) {
-        let mut out = regs;
-        out[i] = k;
-        kept(out)
+        regs[i] = k;
+        Some(regs)
     } else {
-        emptied(regs)
-    }
-}
-
-// A side that is one register is cut; any other side changes nothing.
-fn cut_side(side: Side, c: Cut, n: usize, h: Narrowed) -> Narrowed
-    requires { n ≤ most_registers }
-    ensures { narrowed_of n result ≡ on_register (cut_of c) (side_of n side) (narrowed_of n h) }
-{
-    let Side::Register(i) = side else {
-        return h;
-    };
-    if n <= i {
-        return h;
-    }
-    if h.empty {
-        return h;
-    }
-    let regs = h.regs;
-    let v = regs[i];
-    let k = cut_span(c, v);
-    keep_at(regs, i, k)
-}
-
-// ---- the rules of equal and less; i and j are the intervals of the sides l and m
-
-fn equal_yes(l: Side, m: Side, n: usize, regs: [Span; 8], i: Span, j: Span) -> Narrowed
-    requires { n ≤ most_registers }
-    ensures { narrowed_of n result ≡ equal_yes (side_of n l) (side_of n m) (regs_of n regs) (interval_of i) (interval_of j) }
-{
-    let k = interval::meet(i, j);
-    if interval::at_most(k.low, k.high) {
-        let left = cut_side(l, Cut::Meet(k), n, kept(regs));
-        cut_side(m, Cut::Meet(k), n, left)
-    } else {
-        emptied(regs)
+        None
     }
 }
 
 fn same_single_value(i: Span, j: Span) -> bool
     ensures { result ≡ (eq_z i.low.0 i.high.0 && (eq_z j.low.0 j.high.0 && eq_z i.low.0 j.low.0)) }
 {
-    if interval::equal(i.low, i.high) {
-        if interval::equal(j.low, j.high) {
-            interval::equal(i.low, j.low)
+    interval::equal(i.low, i.high)
+        && interval::equal(j.low, j.high)
+        && interval::equal(i.low, j.low)
+}
+
+impl Walk<'_> {
+    // A side of a comparison: the number of its register, where it is one register, and none where it is any other expression.
+    #[tactic(auto, unfolding(crate::specs::Comparison::side_at, crate::specs::Comparison::register_at))]
+    pub(crate) fn side_at(&self, at: usize) -> Option<usize>
+        ensures { result ≡ side_at self.now.s.now self.now.end at }
+    {
+        match arith_at(self.s, at, self.end)? {
+            ArithKind::Register if at + 1 < self.end => Some(usize::from(self.s[at + 1])),
+            _ => None,
+        }
+    }
+
+    // A side that is one register is cut; any other side changes nothing.
+    #[tactic(auto, using(crate::proofs::evaluation::Laws::regs_get), unfolding(rules::specs::Expression::on_register))]
+    fn cut_side<F: Fn(Span) -> Span>(
+        &self,
+        side: Option<usize>,
+        cut: F,
+        h: Option<[Span; 8]>,
+    ) -> Option<[Span; 8]>
+        requires { F.IsAlwaysCallable cut }
+        ensures { (f : Interval → Interval) → ((k r : Span) → F.post cut k r → interval_of r ≡ f (interval_of k))
+            → narrowed_of self.now.n result ≡ on_register f (side_of self.now.n side) (narrowed_of self.now.n h) }
+    {
+        match side {
+            Some(i) if i < self.n => {
+                let regs = h?;
+                keep_at(regs, i, cut(regs[i]))
+            }
+            _ => h,
+        }
+    }
+
+    // ---- the rules of equal and less; i and j are the intervals of the sides l and m
+
+    #[tactic(auto, unfolding(rules::specs::Expression::equal_yes))]
+    fn equal_yes(&self, l: Option<usize>, m: Option<usize>, i: Span, j: Span) -> Option<[Span; 8]>
+        ensures { narrowed_of self.now.n result
+            ≡ equal_yes (side_of self.now.n l) (side_of self.now.n m) (registers_in self.now) (interval_of i) (interval_of j) }
+    {
+        let both = interval::meet(i, j);
+        if interval::at_most(both.low, both.high) {
+            let left = self.cut_side(l, |k| interval::meet(k, both), Some(self.regs));
+            self.cut_side(m, |k| interval::meet(k, both), left)
         } else {
-            false
-        }
-    } else {
-        false
-    }
-}
-
-fn equal_no(regs: [Span; 8], i: Span, j: Span) -> Narrowed
-    ensures { (n : ℕ) → narrowed_of n result ≡ equal_no (regs_of n regs) (interval_of i) (interval_of j) }
-{
-    if same_single_value(i, j) {
-        emptied(regs)
-    } else {
-        kept(regs)
-    }
-}
-
-fn less_yes(l: Side, m: Side, n: usize, regs: [Span; 8], i: Span, j: Span) -> Narrowed
-    requires { n ≤ most_registers }
-    ensures { narrowed_of n result ≡ less_yes (side_of n l) (side_of n m) (regs_of n regs) (interval_of i) (interval_of j) }
-{
-    if interval::below(i.low, j.high) {
-        let most = interval::previous(j.high);
-        let least = interval::next(i.low);
-        let left = cut_side(l, Cut::AtMost(most), n, kept(regs));
-        cut_side(m, Cut::AtLeast(least), n, left)
-    } else {
-        emptied(regs)
-    }
-}
-
-fn less_no(l: Side, m: Side, n: usize, regs: [Span; 8], i: Span, j: Span) -> Narrowed
-    requires { n ≤ most_registers }
-    ensures { narrowed_of n result ≡ less_no (side_of n l) (side_of n m) (regs_of n regs) (interval_of i) (interval_of j) }
-{
-    if interval::at_most(j.low, i.high) {
-        let least = j.low;
-        let most = i.high;
-        let left = cut_side(l, Cut::AtLeast(least), n, kept(regs));
-        cut_side(m, Cut::AtMost(most), n, left)
-    } else {
-        emptied(regs)
-    }
-}
-
-// The rule of yes where wanted, of no where not.
-fn compare_spans(
-    wanted: bool,
-    o: Relation,
-    l: Side,
-    m: Side,
-    n: usize,
-    regs: [Span; 8],
-    i: Span,
-    j: Span,
-) -> Narrowed
-    requires { n ≤ most_registers }
-    ensures { narrowed_of n result ≡ comparison_rule wanted o (side_of n l) (side_of n m) (regs_of n regs) (interval_of i) (interval_of j) }
-{
-    match o {
-        Relation::Equal => {
-            if wanted {
-                equal_yes(l, m, n, regs, i, j)
-            } else {
-                equal_no(regs, i, j)
-            }
-        }
-        Relation::Less => {
-            if wanted {
-                less_yes(l, m, n, regs, i, j)
-            } else {
-                less_no(l, m, n, regs, i, j)
-            }
+            None
         }
     }
-}
 
-pub(crate) fn compare_readings(
-    wanted: bool,
-    o: Relation,
-    l: Side,
-    m: Side,
-    n: usize,
-    regs: [Span; 8],
-    x: Reading,
-    y: Reading,
-) -> Narrowed
-    requires { n ≤ most_registers }
-    ensures { narrowed_of n result ≡ compared (comparison_rule wanted o (side_of n l) (side_of n m) (regs_of n regs)) (result_of x) (result_of y) }
-{
-    let Reading::Is(i) = x else {
-        return emptied(regs);
-    };
-    let Reading::Is(j) = y else {
-        return emptied(regs);
-    };
-    compare_spans(wanted, o, l, m, n, regs, i, j)
+    #[tactic(auto, unfolding(rules::specs::Expression::equal_no))]
+    fn equal_no(&self, i: Span, j: Span) -> Option<[Span; 8]>
+        ensures { narrowed_of self.now.n result ≡ equal_no (registers_in self.now) (interval_of i) (interval_of j) }
+    {
+        if same_single_value(i, j) {
+            None
+        } else {
+            Some(self.regs)
+        }
+    }
+
+    #[tactic(auto, unfolding(rules::specs::Expression::less_yes))]
+    fn less_yes(&self, l: Option<usize>, m: Option<usize>, i: Span, j: Span) -> Option<[Span; 8]>
+        ensures { narrowed_of self.now.n result
+            ≡ less_yes (side_of self.now.n l) (side_of self.now.n m) (registers_in self.now) (interval_of i) (interval_of j) }
+    {
+        if interval::below(i.low, j.high) {
+            let most = interval::previous(j.high);
+            let least = interval::next(i.low);
+            let left = self.cut_side(l, |k| interval::cut_above(most, k), Some(self.regs));
+            self.cut_side(m, |k| interval::cut_below(least, k), left)
+        } else {
+            None
+        }
+    }
+
+    #[tactic(auto, unfolding(rules::specs::Expression::less_no))]
+    fn less_no(&self, l: Option<usize>, m: Option<usize>, i: Span, j: Span) -> Option<[Span; 8]>
+        ensures { narrowed_of self.now.n result
+            ≡ less_no (side_of self.now.n l) (side_of self.now.n m) (registers_in self.now) (interval_of i) (interval_of j) }
+    {
+        if interval::at_most(j.low, i.high) {
+            let left = self.cut_side(l, |k| interval::cut_below(j.low, k), Some(self.regs));
+            self.cut_side(m, |k| interval::cut_above(i.high, k), left)
+        } else {
+            None
+        }
+    }
+
+    // The rule of yes where wanted, of no where not.
+    pub(crate) fn compare_spans(
+        &self,
+        wanted: bool,
+        o: Relation,
+        l: Option<usize>,
+        m: Option<usize>,
+        i: Span,
+        j: Span,
+    ) -> Option<[Span; 8]>
+        ensures { narrowed_of self.now.n result
+            ≡ comparison_rule wanted o (side_of self.now.n l) (side_of self.now.n m) (registers_in self.now)
+            (interval_of i) (interval_of j) }
+    {
+        match (o, wanted) {
+            (Relation::Equal, true) => self.equal_yes(l, m, i, j),
+            (Relation::Equal, false) => self.equal_no(i, j),
+            (Relation::Less, true) => self.less_yes(l, m, i, j),
+            (Relation::Less, false) => self.less_no(l, m, i, j),
+        }
+    }
+
+    #[tactic(auto, unfolding(rules::specs::Expression::compared))]
+    pub(crate) fn compare_readings(
+        &self,
+        wanted: bool,
+        o: Relation,
+        l: Option<usize>,
+        m: Option<usize>,
+        x: Result<Span, Refusal>,
+        y: Result<Span, Refusal>,
+    ) -> Option<[Span; 8]>
+        ensures { narrowed_of self.now.n result
+            ≡ compared (comparison_rule wanted o (side_of self.now.n l) (side_of self.now.n m) (registers_in self.now))
+            (result_of x) (result_of y) }
+    {
+        self.compare_spans(wanted, o, l, m, x.ok()?, y.ok()?)
+    }
 }

@@ -1,80 +1,62 @@
-// Evaluation over intervals, along the bytes: the same recursion as reading. A fault of the arithmetic is data and does not
-// end the walk, so the place behind the expression is known in every case.
-ghost use Rattle.std.specs.Prelude.{◌≡◌, ◌≤◌, length};
-ghost use Rattle.rules.specs.Constants.{most_registers};
-ghost use Rattle.rules.specs.Expression.{Regs};
-ghost use Rattle.rules.specs.Format.{read_constant, read_register, read_arith};
-ghost use Rattle.expression.specs.Evaluation.{regs_of, evaluated_of, evaluated_in};
+// Evaluation over intervals, along the bytes: the same recursion as reading. Each function gives the span or the fault of the
+// arithmetic, and the place behind the expression; none where no expression stands, of which `read_arith` has the refusal. A fault
+// of the arithmetic does not end the walk, so the place behind the expression is known in every case.
+ghost use Rattle.std.specs.Prelude.{◌≡◌, ◌≤◌};
+ghost use Rattle.rules.specs.Format.{read_constant, read_register};
+ghost use Rattle.expression.specs.Walk.{registers_in, arith_in};
+ghost use Rattle.expression.specs.Evaluation.{evaluated_of, evaluated_in};
 
 use crate::kind::{ArithKind, arith_at};
-use crate::number::{index, int32_at};
-use interval::{Reading, Span};
+use crate::number::int32_at;
+use crate::walk::Walk;
+use interval::Span;
+use refusal::Refusal;
 
-// A reading and the place behind the expression; Unread where no expression stands, of which `read_arith` has the refusal.
-#[derive(Clone, Copy)]
-pub(crate) enum Evaluated {
-    Read(Reading, usize),
-    Unread,
-}
-
-// The constant whose four bytes stand at p.
-fn evaluate_constant(s: &[u8], p: usize, end: usize) -> Evaluated
-    requires { (p ≤ end) × (end ≤ length s.now) }
-    ensures { (rs : Regs) → evaluated_of result ≡ evaluated_in rs (read_constant s.now end p) }
-{
-    if end < p + 4 {
-        return Evaluated::Unread;
-    }
-    let v = int32_at(s, p);
-    let x = Reading::Is(Span { low: v, high: v });
-    Evaluated::Read(x, p + 4)
-}
-
-// The register whose number stands at p: one of the first n.
-fn evaluate_register(s: &[u8], p: usize, end: usize, n: usize, regs: [Span; 8]) -> Evaluated
-    requires { (p ≤ end) × ((end ≤ length s.now) × (n ≤ most_registers)) }
-    ensures { evaluated_of result ≡ evaluated_in (regs_of n regs) (read_register s.now end n p) }
-{
-    if end < p + 1 {
-        return Evaluated::Unread;
-    }
-    let r = index(s[p]);
-    if n <= r {
-        return Evaluated::Unread;
-    }
-    let v = regs[r];
-    let x = Reading::Is(v);
-    Evaluated::Read(x, p + 1)
-}
-
-pub(crate) fn evaluate(
-    s: &[u8],
-    at: usize,
-    end: usize,
-    n: usize,
-    depth: usize,
-    regs: [Span; 8],
-) -> Evaluated
-    requires { (end ≤ length s.now) × (n ≤ most_registers) }
-    ensures { evaluated_of result ≡ evaluated_in (regs_of n regs) (read_arith depth s.now end n at) }
-{
-    if depth == 0 {
-        return Evaluated::Unread;
-    }
-    let kind = arith_at(s, at, end);
-    match kind {
-        ArithKind::Constant => evaluate_constant(s, at + 1, end),
-        ArithKind::Register => evaluate_register(s, at + 1, end, n, regs),
-        ArithKind::Operation(o) => {
-            let Evaluated::Read(x, q) = evaluate(s, at + 1, end, n, depth - 1, regs) else {
-                return Evaluated::Unread;
-            };
-            let Evaluated::Read(y, r) = evaluate(s, q, end, n, depth - 1, regs) else {
-                return Evaluated::Unread;
-            };
-            let v = interval::combine_readings(o, x, y);
-            Evaluated::Read(v, r)
+impl Walk<'_> {
+    // The constant whose four bytes stand at p.
+    #[tactic(auto, unfolding(rules::specs::Format::read_constant, rules::specs::Format::need, rules::specs::Expression::evaluate))]
+    fn evaluate_constant(&self, p: usize) -> Option<(Result<Span, Refusal>, usize)>
+        requires { p ≤ self.now.end }
+        ensures { evaluated_of result ≡ evaluated_in (registers_in self.now) (read_constant self.now.s.now self.now.end p) }
+    {
+        if self.end < p + 4 {
+            return None;
         }
-        ArithKind::Unknown => Evaluated::Unread,
+        let v = int32_at(self.s, p);
+        Some((Ok(Span { low: v, high: v }), p + 4))
+    }
+
+    // The register whose number stands at p: one of the first n.
+    #[tactic(auto, using(crate::proofs::evaluation::Laws::regs_get), unfolding(crate::proofs::evaluation::Laws::register))]
+    fn evaluate_register(&self, p: usize) -> Option<(Result<Span, Refusal>, usize)>
+        requires { p ≤ self.now.end }
+        ensures { evaluated_of result ≡ evaluated_in (registers_in self.now) (read_register self.now.s.now self.now.end self.now.n p) }
+    {
+        if self.end < p + 1 {
+            return None;
+        }
+        let r = usize::from(self.s[p]);
+        if self.n <= r {
+            return None;
+        }
+        Some((Ok(self.regs[r]), p + 1))
+    }
+
+    #[tactic(auto, using(crate::proofs::evaluation::Laws::evaluated_laws))]
+    pub(crate) fn evaluate(&self, at: usize, depth: usize) -> Option<(Result<Span, Refusal>, usize)>
+        ensures { evaluated_of result ≡ evaluated_in (registers_in self.now) (arith_in self.now depth at) }
+    {
+        if depth == 0 {
+            return None;
+        }
+        match arith_at(self.s, at, self.end)? {
+            ArithKind::Constant => self.evaluate_constant(at + 1),
+            ArithKind::Register => self.evaluate_register(at + 1),
+            ArithKind::Operation(o) => {
+                let (x, q) = self.evaluate(at + 1, depth - 1)?;
+                let (y, r) = self.evaluate(q, depth - 1)?;
+                Some((interval::combine_readings(o, x, y), r))
+            }
+        }
     }
 }

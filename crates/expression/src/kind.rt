@@ -1,5 +1,5 @@
 // What the code at a place says: the only functions that know 01's codes.
-ghost use Rattle.std.specs.Prelude.{◌≡◌, ◌≤◌, length};
+ghost use Rattle.std.specs.Prelude.{◌≡◌, ◌<◌, ◌≤◌, length, OnSome};
 ghost use Rattle.rules.specs.Format.{arith_kind, arith_at, condition_kind, condition_at};
 ghost use Rattle.expression.specs.Kind.{arith_kind_of, condition_kind_of};
 
@@ -10,33 +10,31 @@ pub enum ArithKind {
     Constant,
     Register,
     Operation(Operator),
-    Unknown,
 }
 
-fn arith_kind(code: u8) -> ArithKind
+#[tactic(auto, unfolding(rules::specs::Format::arith_kind))]
+fn arith_kind(code: u8) -> Option<ArithKind>
     ensures { arith_kind_of result ≡ arith_kind code }
 {
     match code {
-        16 => ArithKind::Constant,
-        17 => ArithKind::Register,
-        18 => ArithKind::Operation(Operator::Plus),
-        19 => ArithKind::Operation(Operator::Minus),
-        20 => ArithKind::Operation(Operator::Times),
-        21 => ArithKind::Operation(Operator::Divide),
-        _ => ArithKind::Unknown,
+        16 => Some(ArithKind::Constant),
+        17 => Some(ArithKind::Register),
+        18 => Some(ArithKind::Operation(Operator::Plus)),
+        19 => Some(ArithKind::Operation(Operator::Minus)),
+        20 => Some(ArithKind::Operation(Operator::Times)),
+        21 => Some(ArithKind::Operation(Operator::Divide)),
+        _ => None,
     }
 }
 
-// Unknown, too, where the body has ended.
-pub fn arith_at(s: &[u8], at: usize, end: usize) -> ArithKind
+// None where the code is no expression's, and where the body has ended.
+#[tactic(auto, unfolding(rules::specs::Format::arith_at))]
+pub fn arith_at(s: &[u8], at: usize, end: usize) -> Option<ArithKind>
     requires { end ≤ length s.now }
-    ensures { arith_kind_of result ≡ arith_at s.now end at }
+    ensures kind { arith_kind_of result ≡ arith_at s.now end at }
+    ensures inside { OnSome result (at < end) }
 {
-    if at < end {
-        arith_kind(s[at])
-    } else {
-        ArithKind::Unknown
-    }
+    if at < end { arith_kind(s[at]) } else { None }
 }
 
 #[derive(Clone, Copy)]
@@ -52,30 +50,33 @@ pub enum ConditionKind {
     Negation,
     Conjunction,
     Comparison(Relation),
-    UnknownCondition,
 }
 
-fn condition_kind(code: u8) -> ConditionKind
+#[tactic(auto, unfolding(rules::specs::Format::condition_kind))]
+fn condition_kind(code: u8) -> Option<ConditionKind>
     ensures { condition_kind_of result ≡ condition_kind code }
 {
     match code {
-        32 => ConditionKind::Always,
-        33 => ConditionKind::Never,
-        34 => ConditionKind::Negation,
-        35 => ConditionKind::Conjunction,
-        36 => ConditionKind::Comparison(Relation::Equal),
-        37 => ConditionKind::Comparison(Relation::Less),
-        _ => ConditionKind::UnknownCondition,
+        32 => Some(ConditionKind::Always),
+        33 => Some(ConditionKind::Never),
+        34 => Some(ConditionKind::Negation),
+        35 => Some(ConditionKind::Conjunction),
+        36 => Some(ConditionKind::Comparison(Relation::Equal)),
+        37 => Some(ConditionKind::Comparison(Relation::Less)),
+        _ => None,
     }
 }
 
-pub fn condition_at(s: &[u8], at: usize, end: usize) -> ConditionKind
+// None where the code is no condition's, and where the body has ended.
+#[tactic(auto, unfolding(rules::specs::Format::condition_at))]
+pub fn condition_at(s: &[u8], at: usize, end: usize) -> Option<ConditionKind>
     requires { end ≤ length s.now }
-    ensures { condition_kind_of result ≡ condition_at s.now end at }
+    ensures kind { condition_kind_of result ≡ condition_at s.now end at }
+    ensures inside { OnSome result (at < end) }
 {
     if at < end {
         condition_kind(s[at])
     } else {
-        ConditionKind::UnknownCondition
+        None
     }
 }

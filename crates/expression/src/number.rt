@@ -1,22 +1,17 @@
 // Numbers of the sheet: the high byte stands first.
 ghost use Rattle.std.specs.Prelude.{◌≡◌, ◌+◌, ◌≤◌, ◌<◌, length};
-ghost use Rattle.rules.specs.Format.{num16, num32, twos_complement, int32};
+ghost use Rattle.rules.specs.Format.{num16, num32, int32};
 
 use interval::Val;
-
-fn wide(x: u8) -> u32
-    ensures { (result ≡ x) × (result < 256) }
-{
-    x as u32
-}
 
 pub fn num16_at(s: &[u8], p: usize) -> u32
     requires { p + 2 ≤ length s.now }
     ensures { (result ≡ num16 s.now p) × (result < 65536) }
 {
-    wide(s[p]) * 256 + wide(s[p + 1])
+    u32::from(s[p]) * 256 + u32::from(s[p + 1])
 }
 
+#[tactic(auto, unfolding(rules::specs::Format::num32))]
 pub fn num32_at(s: &[u8], p: usize) -> u32
     requires { p + 4 ≤ length s.now }
     ensures { result ≡ num32 s.now p }
@@ -24,27 +19,11 @@ pub fn num32_at(s: &[u8], p: usize) -> u32
     num16_at(s, p) * 65536 + num16_at(s, p + 2)
 }
 
-// A number of 32 bits as two's complement.
-fn signed(v: u32) -> Val
-    ensures { result.0 ≡ twos_complement v }
-{
-    if v < 2147483648 {
-        return Val(v as i32);
-    }
-    let m = (4294967295 - v) as i32;
-    Val(-1 - m)
-}
-
+// The bits of 32 as two's complement.
+#[tactic(auto, unfolding(rules::specs::Format::int32, rules::specs::Format::twos_complement))]
 pub fn int32_at(s: &[u8], p: usize) -> Val
     requires { p + 4 ≤ length s.now }
     ensures { result.0 ≡ int32 s.now p }
 {
-    signed(num32_at(s, p))
-}
-
-// A byte as the number of a register.
-pub(crate) fn index(x: u8) -> usize
-    ensures { result ≡ x }
-{
-    x as usize
+    Val(num32_at(s, p).cast_signed())
 }

@@ -1,126 +1,53 @@
 // Every part of a condition worked out on the registers before narrowing, both sides of an "and" always: the first fault
 // from the left, or none.
-ghost use Rattle.std.specs.Prelude.{◌≡◌, ◌≤◌, length};
-ghost use Rattle.rules.specs.Constants.{most_registers};
-ghost use Rattle.rules.specs.Format.{read_condition};
-ghost use Rattle.interval.specs.Shape.{result_of};
-ghost use Rattle.expression.specs.Kind.{relation_of};
-ghost use Rattle.expression.specs.Reading.{pair_at};
-ghost use Rattle.expression.specs.Evaluation.{unread, read, regs_of, both_found};
-ghost use Rattle.expression.specs.Parts.{check_of, checked_of, parts_in, fault_in, first_fault};
+ghost use Rattle.std.specs.Prelude.{◌≡◌};
+ghost use Rattle.expression.specs.Walk.{registers_in, condition_in, sides_in};
+ghost use Rattle.expression.specs.Parts.{check_of, checked_of, parts_in, first_fault};
 
-use crate::evaluation::{Evaluated, evaluate};
 use crate::kind::{ConditionKind, Relation, condition_at};
-use interval::{Reading, Span};
+use crate::walk::Walk;
 use refusal::Refusal;
 
-#[derive(Clone, Copy)]
-pub enum Check {
-    Passed,
-    Fault(Refusal),
-}
-
-// Where read, the check of a condition and the place behind it; where not, no condition stands there, and check and next
-// say nothing.
-#[derive(Clone, Copy)]
-pub(crate) struct Checked {
-    pub read: bool,
-    pub check: Check,
-    pub next: usize,
-}
-
-fn unchecked() -> Checked
-    ensures { checked_of result ≡ unread }
-{
-    Checked {
-        read: false,
-        check: Check::Passed,
-        next: 0,
-    }
-}
-
-fn checked_as(check: Check, next: usize) -> Checked
-    ensures { checked_of result ≡ read (check_of check) next }
-{
-    Checked {
-        read: true,
-        check: check,
-        next: next,
-    }
-}
-
-pub(crate) fn check_reading(x: Reading) -> Check
-    ensures { check_of result ≡ fault_in (result_of x) }
-{
-    match x {
-        Reading::Is(_) => Check::Passed,
-        Reading::Fault(r) => Check::Fault(r),
-    }
-}
-
-pub(crate) fn first_fault(x: Check, y: Check) -> Check
+// The first fault of two results, from the left.
+#[tactic(auto, unfolding(rules::specs::Refusal::on_both))]
+fn first_fault<A: Copy, B: Copy>(
+    x: Result<A, Refusal>,
+    y: Result<B, Refusal>,
+) -> Result<(), Refusal>
     ensures { check_of result ≡ first_fault (check_of x) (check_of y) }
 {
-    match x {
-        Check::Passed => y,
-        Check::Fault(r) => Check::Fault(r),
+    x?;
+    y?;
+    Ok(())
+}
+
+impl Walk<'_> {
+    // The two sides of a comparison, whichever it is.
+    #[tactic(auto, using(crate::proofs::parts::Laws::sides_are, crate::proofs::parts::Laws::faults_same))]
+    fn check_sides(&self, at: usize, depth: usize) -> Option<(Result<(), Refusal>, usize)>
+        ensures { (o : Relation) → checked_of result ≡ parts_in (registers_in self.now) (sides_in self.now o depth at) }
+    {
+        let (x, q) = self.evaluate(at, depth)?;
+        let (y, r) = self.evaluate(q, depth)?;
+        Some((first_fault(x, y), r))
     }
-}
 
-// The two sides of a comparison, whichever it is.
-fn check_sides(s: &[u8], at: usize, end: usize, n: usize, depth: usize, regs: [Span; 8]) -> Checked
-    requires { (end ≤ length s.now) × (n ≤ most_registers) }
-    ensures { (o : Relation) → checked_of result ≡ parts_in (regs_of n regs) (pair_at depth s.now end n at (relation_of o)) }
-{
-    let Evaluated::Read(x, q) = evaluate(s, at, end, n, depth, regs) else {
-        return unchecked();
-    };
-    let Evaluated::Read(y, r) = evaluate(s, q, end, n, depth, regs) else {
-        return unchecked();
-    };
-    checked_as(first_fault(check_reading(x), check_reading(y)), r)
-}
-
-// Two conditions, one behind the other.
-fn check_both(a: Checked, b: Checked) -> Checked
-    ensures { checked_of result ≡ both_found first_fault (checked_of a) (checked_of b) }
-{
-    let x = a.check;
-    let y = b.check;
-    if a.read {
-        if b.read {
-            return checked_as(first_fault(x, y), b.next);
+    #[tactic(auto, using(crate::proofs::parts::Laws::parts_laws), unfolding(rules::specs::Expression::all_parts))]
+    pub(crate) fn all_parts(&self, at: usize, depth: usize) -> Option<(Result<(), Refusal>, usize)>
+        ensures { checked_of result ≡ parts_in (registers_in self.now) (condition_in self.now depth at) }
+    {
+        if depth == 0 {
+            return None;
         }
-        return unchecked();
-    }
-    unchecked()
-}
-
-pub(crate) fn all_parts(
-    s: &[u8],
-    at: usize,
-    end: usize,
-    n: usize,
-    depth: usize,
-    regs: [Span; 8],
-) -> Checked
-    requires { (end ≤ length s.now) × (n ≤ most_registers) }
-    ensures { checked_of result ≡ parts_in (regs_of n regs) (read_condition depth s.now end n at) }
-{
-    if depth == 0 {
-        return unchecked();
-    }
-    let kind = condition_at(s, at, end);
-    match kind {
-        ConditionKind::Always => checked_as(Check::Passed, at + 1),
-        ConditionKind::Never => checked_as(Check::Passed, at + 1),
-        ConditionKind::Negation => all_parts(s, at + 1, end, n, depth - 1, regs),
-        ConditionKind::Conjunction => {
-            let left = all_parts(s, at + 1, end, n, depth - 1, regs);
-            let right = all_parts(s, left.next, end, n, depth - 1, regs);
-            check_both(left, right)
+        match condition_at(self.s, at, self.end)? {
+            ConditionKind::Always | ConditionKind::Never => Some((Ok(()), at + 1)),
+            ConditionKind::Negation => self.all_parts(at + 1, depth - 1),
+            ConditionKind::Conjunction => {
+                let (left, q) = self.all_parts(at + 1, depth - 1)?;
+                let (right, r) = self.all_parts(q, depth - 1)?;
+                Some((first_fault(left, right), r))
+            }
+            ConditionKind::Comparison(_) => self.check_sides(at + 1, depth - 1),
         }
-        ConditionKind::Comparison(_) => check_sides(s, at + 1, end, n, depth - 1, regs),
-        ConditionKind::UnknownCondition => unchecked(),
     }
 }

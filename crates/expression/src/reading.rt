@@ -1,4 +1,4 @@
-// Reading: where an expression ends, or the first refusal from the left. The functions on expressions and conditions call
+// Reading: the place behind an expression, or the first refusal from the left. The functions on expressions and conditions call
 // themselves on each operand, and the depth that is left falls.
 ghost use Rattle.std.specs.Prelude.{◌≡◌, ◌^◌, ◌≤◌, ◌<◌, length};
 ghost use Rattle.rules.specs.Program.{Arith, Condition};
@@ -6,95 +6,84 @@ ghost use Rattle.rules.specs.Format.{Bytes, read_constant, read_register, read_a
 ghost use Rattle.expression.specs.Reading.{parsed_of, pair_at};
 
 use crate::kind::{ArithKind, ConditionKind, arith_at, condition_at};
-use crate::number::index;
 use refusal::Refusal;
 
-// The place behind what was read, or the refusal.
-#[derive(Clone, Copy)]
-pub enum Parsed {
-    Good(usize),
-    Refused(Refusal),
-}
-
 // A constant's four bytes, at p.
-fn read_constant(p: usize, end: usize) -> Parsed
+#[tactic(auto, unfolding(rules::specs::Format::read_constant, rules::specs::Format::need))]
+fn read_constant(p: usize, end: usize) -> Result<usize, Refusal>
     requires { (p ≤ end) × (end < 2 ^ 63) }
     ensures { (s : Bytes) → result ≡ parsed_of (read_constant s end p) }
 {
     if end < p + 4 {
-        return Parsed::Refused(Refusal::BadExpression);
+        return Err(Refusal::BadExpression);
     }
-    Parsed::Good(p + 4)
+    Ok(p + 4)
 }
 
 // A register's number, at p: one of n registers.
-fn read_register(s: &[u8], p: usize, end: usize, n: usize) -> Parsed
+#[tactic(auto, unfolding(rules::specs::Format::read_register, rules::specs::Format::need))]
+fn read_register(s: &[u8], p: usize, end: usize, n: usize) -> Result<usize, Refusal>
     requires { (p ≤ end) × (end ≤ length s.now) }
     ensures { result ≡ parsed_of (read_register s.now end n p) }
 {
     if end < p + 1 {
-        return Parsed::Refused(Refusal::BadExpression);
+        return Err(Refusal::BadExpression);
     }
-    if n <= index(s[p]) {
-        return Parsed::Refused(Refusal::NoSuchName);
+    if n <= usize::from(s[p]) {
+        return Err(Refusal::NoSuchName);
     }
-    Parsed::Good(p + 1)
+    Ok(p + 1)
 }
 
-pub fn read_arith(s: &[u8], at: usize, end: usize, n: usize, depth: usize) -> Parsed
+#[tactic(auto, using(crate::proofs::reading::Laws::arith_ends, crate::proofs::reading::Laws::arith_refused))]
+pub fn read_arith(s: &[u8], at: usize, end: usize, n: usize, depth: usize) -> Result<usize, Refusal>
     requires { end ≤ length s.now }
     ensures { result ≡ parsed_of (read_arith depth s.now end n at) }
 {
     if depth == 0 {
-        return Parsed::Refused(Refusal::BadExpression);
+        return Err(Refusal::BadExpression);
     }
-    let kind = arith_at(s, at, end);
-    match kind {
+    match arith_at(s, at, end).ok_or(Refusal::BadExpression)? {
         ArithKind::Constant => read_constant(at + 1, end),
         ArithKind::Register => read_register(s, at + 1, end, n),
         ArithKind::Operation(_) => {
-            let left = read_arith(s, at + 1, end, n, depth - 1);
-            match left {
-                Parsed::Good(q) => read_arith(s, q, end, n, depth - 1),
-                Parsed::Refused(r) => Parsed::Refused(r),
-            }
+            let q = read_arith(s, at + 1, end, n, depth - 1)?;
+            read_arith(s, q, end, n, depth - 1)
         }
-        ArithKind::Unknown => Parsed::Refused(Refusal::BadExpression),
     }
 }
 
 // The two sides of a comparison, whichever it is.
-fn read_pair(s: &[u8], at: usize, end: usize, n: usize, depth: usize) -> Parsed
+#[tactic(auto, unfolding(rules::specs::Format::and_then))]
+fn read_pair(s: &[u8], at: usize, end: usize, n: usize, depth: usize) -> Result<usize, Refusal>
     requires { end ≤ length s.now }
     ensures { (f : Arith → Arith → Condition) → result ≡ parsed_of (pair_at depth s.now end n at f) }
 {
-    let left = read_arith(s, at, end, n, depth);
-    match left {
-        Parsed::Good(q) => read_arith(s, q, end, n, depth),
-        Parsed::Refused(r) => Parsed::Refused(r),
-    }
+    let q = read_arith(s, at, end, n, depth)?;
+    read_arith(s, q, end, n, depth)
 }
 
-pub fn read_condition(s: &[u8], at: usize, end: usize, n: usize, depth: usize) -> Parsed
+#[tactic(auto, using(crate::proofs::reading::Laws::condition_ends, crate::proofs::reading::Laws::condition_refused))]
+pub fn read_condition(
+    s: &[u8],
+    at: usize,
+    end: usize,
+    n: usize,
+    depth: usize,
+) -> Result<usize, Refusal>
     requires { end ≤ length s.now }
     ensures { result ≡ parsed_of (read_condition depth s.now end n at) }
 {
     if depth == 0 {
-        return Parsed::Refused(Refusal::BadExpression);
+        return Err(Refusal::BadExpression);
     }
-    let kind = condition_at(s, at, end);
-    match kind {
-        ConditionKind::Always => Parsed::Good(at + 1),
-        ConditionKind::Never => Parsed::Good(at + 1),
+    match condition_at(s, at, end).ok_or(Refusal::BadExpression)? {
+        ConditionKind::Always | ConditionKind::Never => Ok(at + 1),
         ConditionKind::Negation => read_condition(s, at + 1, end, n, depth - 1),
         ConditionKind::Conjunction => {
-            let left = read_condition(s, at + 1, end, n, depth - 1);
-            match left {
-                Parsed::Good(q) => read_condition(s, q, end, n, depth - 1),
-                Parsed::Refused(r) => Parsed::Refused(r),
-            }
+            let q = read_condition(s, at + 1, end, n, depth - 1)?;
+            read_condition(s, q, end, n, depth - 1)
         }
         ConditionKind::Comparison(_) => read_pair(s, at + 1, end, n, depth - 1),
-        ConditionKind::UnknownCondition => Parsed::Refused(Refusal::BadExpression),
     }
 }

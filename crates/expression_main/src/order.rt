@@ -1,99 +1,77 @@
 // Which of two faults is told, 10 or 16: of the left operand, then of the right one, then of the operator; of a divide zero
 // before size. Register 0 is -1..0.
-use crate::{branch, value};
-
-fn told(rt: HostRuntime, text: &[u8], code: &[u8]) {
-    value(rt, text, code, -1, 0, 0, 0);
-}
-
-fn tested(rt: HostRuntime, text: &[u8], code: &[u8]) {
-    branch(rt, text, code, -1, 0, 0, 0);
-}
+use crate::cases::on;
 
 pub(crate) fn operands(rt: HostRuntime) {
-    told(
-        rt,
-        b"1 / 0 + (greatest + 1)",
+    let cases = on(rt, (-1, 0), (0, 0));
+    cases.value(
+        "1 / 0 + (greatest + 1)",
         b"\x12\x15\x10\x00\x00\x00\x01\x10\x00\x00\x00\x00\x12\x10\x7f\xff\xff\xff\x10\x00\x00\x00\x01",
     );
-    told(
-        rt,
-        b"(greatest + 1) + 1 / 0",
+    cases.value(
+        "(greatest + 1) + 1 / 0",
         b"\x12\x12\x10\x7f\xff\xff\xff\x10\x00\x00\x00\x01\x15\x10\x00\x00\x00\x01\x10\x00\x00\x00\x00",
     );
-    told(
-        rt,
-        b"1 / 0 / (greatest + 1)",
+    cases.value(
+        "1 / 0 / (greatest + 1)",
         b"\x15\x15\x10\x00\x00\x00\x01\x10\x00\x00\x00\x00\x12\x10\x7f\xff\xff\xff\x10\x00\x00\x00\x01",
     );
-    told(
-        rt,
-        b"(greatest + 1) / (1 / 0)",
+    cases.value(
+        "(greatest + 1) / (1 / 0)",
         b"\x15\x12\x10\x7f\xff\xff\xff\x10\x00\x00\x00\x01\x15\x10\x00\x00\x00\x01\x10\x00\x00\x00\x00",
     );
-    told(
-        rt,
-        b"(greatest + 1) / 0",
+    cases.value(
+        "(greatest + 1) / 0",
         b"\x15\x12\x10\x7f\xff\xff\xff\x10\x00\x00\x00\x01\x10\x00\x00\x00\x00",
     );
-    told(
-        rt,
-        b"lowest / (1 / 0)",
+    cases.value(
+        "lowest / (1 / 0)",
         b"\x15\x10\x80\x00\x00\x00\x15\x10\x00\x00\x00\x01\x10\x00\x00\x00\x00",
     );
-    told(rt, b"lowest / r0", b"\x15\x10\x80\x00\x00\x00\x11\x00");
-    told(
-        rt,
-        b"lowest / (r0 - 1)",
+    cases.value("lowest / r0", b"\x15\x10\x80\x00\x00\x00\x11\x00");
+    cases.value(
+        "lowest / (r0 - 1)",
         b"\x15\x10\x80\x00\x00\x00\x13\x11\x00\x10\x00\x00\x00\x01",
     );
 }
 
 // The parts of a condition from the left, on the registers before narrowing.
 pub(crate) fn parts(rt: HostRuntime) {
-    tested(
-        rt,
-        b"1 / 0 == greatest + 1",
+    let cases = on(rt, (-1, 0), (0, 0));
+    cases.branch(
+        "1 / 0 == greatest + 1",
         b"\x24\x15\x10\x00\x00\x00\x01\x10\x00\x00\x00\x00\x12\x10\x7f\xff\xff\xff\x10\x00\x00\x00\x01",
     );
-    tested(
-        rt,
-        b"greatest + 1 == 1 / 0",
+    cases.branch(
+        "greatest + 1 == 1 / 0",
         b"\x24\x12\x10\x7f\xff\xff\xff\x10\x00\x00\x00\x01\x15\x10\x00\x00\x00\x01\x10\x00\x00\x00\x00",
     );
-    tested(
-        rt,
-        b"1 / 0 < greatest + 1",
+    cases.branch(
+        "1 / 0 < greatest + 1",
         b"\x25\x15\x10\x00\x00\x00\x01\x10\x00\x00\x00\x00\x12\x10\x7f\xff\xff\xff\x10\x00\x00\x00\x01",
     );
-    tested(
-        rt,
-        b"greatest + 1 < 1 / 0",
+    cases.branch(
+        "greatest + 1 < 1 / 0",
         b"\x25\x12\x10\x7f\xff\xff\xff\x10\x00\x00\x00\x01\x15\x10\x00\x00\x00\x01\x10\x00\x00\x00\x00",
     );
-    tested(
-        rt,
-        b"1 / 0 < 0 && greatest + 1 < 0",
+    cases.branch(
+        "1 / 0 < 0 && greatest + 1 < 0",
         b"\x23\x25\x15\x10\x00\x00\x00\x01\x10\x00\x00\x00\x00\x10\x00\x00\x00\x00\x25\x12\x10\x7f\xff\xff\xff\x10\x00\x00\x00\x01\x10\x00\x00\x00\x00",
     );
-    tested(
-        rt,
-        b"greatest + 1 < 0 && 1 / 0 < 0",
+    cases.branch(
+        "greatest + 1 < 0 && 1 / 0 < 0",
         b"\x23\x25\x12\x10\x7f\xff\xff\xff\x10\x00\x00\x00\x01\x10\x00\x00\x00\x00\x25\x15\x10\x00\x00\x00\x01\x10\x00\x00\x00\x00\x10\x00\x00\x00\x00",
     );
-    tested(
-        rt,
-        b"!(greatest + 1 < 0 && 1 / 0 < 0)",
+    cases.branch(
+        "!(greatest + 1 < 0 && 1 / 0 < 0)",
         b"\x22\x23\x25\x12\x10\x7f\xff\xff\xff\x10\x00\x00\x00\x01\x10\x00\x00\x00\x00\x25\x15\x10\x00\x00\x00\x01\x10\x00\x00\x00\x00\x10\x00\x00\x00\x00",
     );
-    tested(
-        rt,
-        b"false && greatest + 1 < 1 / 0",
+    cases.branch(
+        "false && greatest + 1 < 1 / 0",
         b"\x23\x21\x25\x12\x10\x7f\xff\xff\xff\x10\x00\x00\x00\x01\x15\x10\x00\x00\x00\x01\x10\x00\x00\x00\x00",
     );
-    tested(
-        rt,
-        b"-1 < r0 && greatest - r0 < 0",
+    cases.branch(
+        "-1 < r0 && greatest - r0 < 0",
         b"\x23\x25\x10\xff\xff\xff\xff\x11\x00\x25\x13\x10\x7f\xff\xff\xff\x11\x00\x10\x00\x00\x00\x00",
     );
 }

@@ -1,2 +1,2 @@
--- The way from a reading of the rules to what the code keeps of it, and back.
+-- What the proofs of other crates cite of the code's answers.
 pub mod Laws

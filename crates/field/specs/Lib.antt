@@ -3,4 +3,5 @@ pub mod Ticks
 pub mod Outcome
 pub mod Heads
 pub mod Header
+pub mod Codes
 pub mod Decoded

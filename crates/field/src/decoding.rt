@@ -1,8 +1,10 @@
 // A statement of a sheet that was read, decoded where it stands: how later code goes by the places of an index.
+#![tactic(auto, unfolding(crate::specs::Decoded::decode_action))]
+
 ghost use Rattle.std.specs.Prelude.{◌≡◌, ◌+◌, ◌≤◌, ◌<◌, length};
-ghost use Rattle.rules.specs.Format.{num16};
 ghost use Rattle.field.specs.Decoded.{action_at, statement_at, halts};
 
+use crate::codes::Code;
 use crate::fields::{byte_at, length_at};
 use crate::ticks::{Time, time16_at};
 
@@ -40,46 +42,37 @@ pub struct Statement {
     pub action: Action,
 }
 
-// The place behind the field's body.
-fn body_end(s: &[u8], at: usize) -> usize
-    requires { at + 8 ≤ length s.now }
-    ensures { result ≡ at + 3 + num16 s.now (at + 1) }
-{
-    let n = length_at(s, at);
-    at + 3 + n
-}
-
+// Where a sheet was read, its statement has one of the eight codes.
 fn action_at(s: &[u8], at: usize) -> Action
     requires { at + 8 ≤ length s.now }
     ensures { result ≡ action_at s.now at }
 {
-    let c = s[at + 7];
     let first = byte_at(s, at + 8);
     let second = byte_at(s, at + 9);
-    let end = body_end(s, at);
-    match c {
-        0 => Action::Halt,
-        1 => Action::Skip,
-        2 => Action::Assign {
+    let end = at + 3 + length_at(s, at);
+    match Code::try_from(s[at + 7]) {
+        Ok(Code::Halt) => Action::Halt,
+        Ok(Code::Skip) => Action::Skip,
+        Ok(Code::Assign) => Action::Assign {
             register: first,
             at: at + 9,
             end,
         },
-        3 => Action::Branch {
+        Ok(Code::Branch) => Action::Branch {
             target: first,
             at: at + 9,
             end,
         },
-        4 => Action::Store {
+        Ok(Code::Store) => Action::Store {
             register: first,
             variable: second,
         },
-        5 => Action::Load {
+        Ok(Code::Load) => Action::Load {
             register: first,
             variable: second,
         },
-        6 => Action::Unlock(first),
-        _ => Action::Lock(first),
+        Ok(Code::Unlock) => Action::Unlock(first),
+        Ok(Code::Lock) | Err(_) => Action::Lock(first),
     }
 }
 
@@ -88,21 +81,15 @@ pub fn statement_at(s: &[u8], at: usize) -> Statement
     requires { at + 8 ≤ length s.now }
     ensures { (result ≡ statement_at s.now at) × (result.least.0 < 65536) × (result.greatest.0 < 65536) }
 {
-    let least = time16_at(s, at + 3);
-    let greatest = time16_at(s, at + 5);
-    let action = action_at(s, at);
     Statement {
-        least,
-        greatest,
-        action,
+        least: time16_at(s, at + 3),
+        greatest: time16_at(s, at + 5),
+        action: action_at(s, at),
     }
 }
 
 pub fn is_halt(action: Action) -> bool
     ensures { result ≡ halts action }
 {
-    match action {
-        Action::Halt => true,
-        _ => false,
-    }
+    matches!(action, Action::Halt)
 }

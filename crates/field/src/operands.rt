@@ -1,14 +1,18 @@
 // The operands of a statement's code, and what they may name.
 // Every function is given the whole sheet s; `at` is the place of a statement's field, and its operands stand from p up to the
 // end e of its body.
+#![tactic(auto, unfolding(crate::proofs::Opened::operands))]
+
 ghost use Rattle.std.specs.Prelude.{◌≡◌, true, ◌+◌, ◌≤◌, ◌<◌, length};
 ghost use Rattle.rules.specs.Format.{length_fits, read_action};
+ghost use Rattle.field.specs.Codes.{number_of};
 ghost use Rattle.field.specs.Outcome.{end_of, names_of, exact_end};
 
+use crate::codes::Code;
 use crate::fields::byte_at;
-use crate::outcome::End;
-use expression::{DEEPEST, Parsed, read_arith, read_condition};
-use refusal::Refusal;
+use crate::outcome::need;
+use expression::{DEEPEST, read_arith, read_condition};
+use refusal::{Fault, Refusal};
 
 // What a thread's statements may name: its registers, and the sheet's variables and locks.
 #[derive(Clone, Copy)]
@@ -19,85 +23,67 @@ pub struct Names {
 }
 
 // An expression is to end where the body ends; a fault in it is the field's.
-fn exact_end(x: Parsed, at: usize, e: usize) -> End
+fn exact_end(x: Result<usize, Refusal>, at: usize, e: usize) -> Result<usize, Fault>
     ensures { result ≡ exact_end at e x }
 {
-    match x {
-        Parsed::Refused(r) => End::Refused(r, at),
-        Parsed::Good(q) => {
-            if q == e {
-                return End::At(q);
-            }
-            End::Refused(Refusal::BadExpression, at)
-        }
-    }
+    let q = x.map_err(|refusal| Fault { refusal, place: at })?;
+    need(q == e, Refusal::BadExpression, at)?;
+    Ok(q)
 }
 
-fn assign_end(s: &[u8], names: Names, at: usize, e: usize, p: usize) -> End
+fn assign_end(s: &[u8], names: Names, at: usize, e: usize, p: usize) -> Result<usize, Fault>
     requires { (p < e) × (e ≤ length s.now) }
     ensures { result ≡ end_of (read_action 2 (names_of names) s.now at e p) }
 {
-    let r = byte_at(s, p);
-    if names.regs <= r {
-        return End::Refused(Refusal::NoSuchName, at);
-    }
-    let x = read_arith(s, p + 1, e, names.regs, DEEPEST);
-    exact_end(x, at, e)
+    need(byte_at(s, p) < names.regs, Refusal::NoSuchName, at)?;
+    exact_end(read_arith(s, p + 1, e, names.regs, DEEPEST), at, e)
 }
 
-fn branch_end(s: &[u8], names: Names, at: usize, e: usize, p: usize) -> End
+fn branch_end(s: &[u8], names: Names, at: usize, e: usize, p: usize) -> Result<usize, Fault>
     requires { (p < e) × (e ≤ length s.now) }
     ensures { result ≡ end_of (read_action 3 (names_of names) s.now at e p) }
 {
-    let x = read_condition(s, p + 1, e, names.regs, DEEPEST);
-    exact_end(x, at, e)
+    exact_end(read_condition(s, p + 1, e, names.regs, DEEPEST), at, e)
 }
 
 // Store and load: a register and a variable.
-fn transfer_end(s: &[u8], names: Names, at: usize, e: usize, p: usize) -> End
+fn transfer_end(s: &[u8], names: Names, at: usize, e: usize, p: usize) -> Result<usize, Fault>
     requires { (p < e) × (e ≤ length s.now) }
-    ensures { (result ≡ end_of (read_action 4 (names_of names) s.now at e p)) × (result ≡ end_of (read_action 5 (names_of names) s.now at e p)) }
+    ensures store { result ≡ end_of (read_action 4 (names_of names) s.now at e p) }
+    ensures load { result ≡ end_of (read_action 5 (names_of names) s.now at e p) }
 {
-    let a = byte_at(s, p);
-    let b = byte_at(s, p + 1);
-    if names.regs <= a {
-        return End::Refused(Refusal::NoSuchName, at);
-    }
-    if names.vars <= b {
-        return End::Refused(Refusal::NoSuchName, at);
-    }
-    End::At(e)
+    let named = byte_at(s, p) < names.regs && byte_at(s, p + 1) < names.vars;
+    need(named, Refusal::NoSuchName, at)?;
+    Ok(e)
 }
 
 // Unlock and lock.
-fn lock_end(s: &[u8], names: Names, at: usize, e: usize, p: usize) -> End
-    ensures { (result ≡ end_of (read_action 6 (names_of names) s.now at e p)) × (result ≡ end_of (read_action 7 (names_of names) s.now at e p)) }
+fn lock_end(s: &[u8], names: Names, at: usize, e: usize, p: usize) -> Result<usize, Fault>
+    ensures unlock { result ≡ end_of (read_action 6 (names_of names) s.now at e p) }
+    ensures lock { result ≡ end_of (read_action 7 (names_of names) s.now at e p) }
 {
-    let a = byte_at(s, p);
-    if names.locks <= a {
-        return End::Refused(Refusal::NoSuchName, at);
-    }
-    End::At(e)
+    need(byte_at(s, p) < names.locks, Refusal::NoSuchName, at)?;
+    Ok(e)
 }
 
-// The operands of the code c, in a body of n bytes.
-pub(crate) fn action_end(s: &[u8], names: Names, at: usize, c: usize, n: usize) -> End
-    requires { (c ≤ 7) × (length_fits c n ≡ true) × (5 ≤ n) × (at + 3 + n ≤ length s.now) }
-    ensures { result ≡ end_of (read_action c (names_of names) s.now at (at + 3 + n) (at + 8)) }
+// The operands of a code, in a body of n bytes.
+pub(crate) fn action_end(
+    s: &[u8],
+    names: Names,
+    at: usize,
+    code: Code,
+    n: usize,
+) -> Result<usize, Fault>
+    requires { (length_fits (number_of code) n ≡ true) × (5 ≤ n) × (at + 3 + n ≤ length s.now) }
+    ensures { result ≡ end_of (read_action (number_of code) (names_of names) s.now at (at + 3 + n) (at + 8)) }
 {
     let e = at + 3 + n;
     let p = at + 8;
-    if c <= 1 {
-        return End::At(e);
+    match code {
+        Code::Halt | Code::Skip => Ok(e),
+        Code::Assign => assign_end(s, names, at, e, p),
+        Code::Branch => branch_end(s, names, at, e, p),
+        Code::Store | Code::Load => transfer_end(s, names, at, e, p),
+        Code::Unlock | Code::Lock => lock_end(s, names, at, e, p),
     }
-    if c == 2 {
-        return assign_end(s, names, at, e, p);
-    }
-    if c == 3 {
-        return branch_end(s, names, at, e, p);
-    }
-    if c <= 5 {
-        return transfer_end(s, names, at, e, p);
-    }
-    lock_end(s, names, at, e, p)
 }

@@ -5,7 +5,7 @@ ghost use Rattle.rules.specs.Format.{num16, num32};
 use expression::{num16_at, num32_at};
 
 // A tick of a clock, or a number of ticks.
-#[derive(Clone, Copy)]
+#[derive(Clone, Copy, PartialEq, Eq, PartialOrd, Ord)]
 pub struct Time(pub u32);
 
 pub(crate) fn time16_at(s: &[u8], p: usize) -> Time

@@ -26,20 +26,13 @@ pub const MOST_OF_WORD: usize = 4096;
 pub fn word(rt: HostRuntime, i: usize, buffer: &mut [u8]) -> usize
     ensures in_bounds { result ≤ length buffer.new }
 {
-    match rt.arg(i, buffer) {
-        Ok(n) => n,
-        Err(_) => 0,
-    }
+    rt.arg(i, buffer).unwrap_or(0)
 }
 
 // Whether there is an argument of this number; 0 is the program's own name.
 fn has_word(rt: HostRuntime, i: usize) -> bool {
     let mut none = [0u8; 1];
-    match rt.arg(i, &mut none) {
-        Ok(_) => true,
-        Err(FillError::TooLong) => true,
-        Err(FillError::NotPresent) => false,
-    }
+    !matches!(rt.arg(i, &mut none), Err(FillError::NotPresent))
 }
 
 // How many arguments the program was started with, its own name among them.
@@ -95,10 +88,7 @@ pub fn opened(rt: HostRuntime, i: usize) -> Option<File>
 fn read_some<R: Read>(from: &mut R, buffer: &mut [u8]) -> usize
     ensures in_bounds { result ≤ length buffer.new }
 {
-    match from.read(buffer) {
-        Ok(n) => n,
-        Err(_) => 0,
-    }
+    from.read(buffer).unwrap_or(0)
 }
 
 // Reads until the buffer is full, the bytes end or a read fails, and gives how many bytes it put at the buffer's front.

@@ -23,9 +23,10 @@ pub value-small : (n : ℕ) → n < 2147483648 → decimal n ≡ print_value (tw
 unfolding print_value twos_complement
 value-small n h = rw (lt-ltb n 2147483648 h)
 
-pub value-large : (n : ℕ) → 2147483648 ≤ n → 45 ∷ decimal (4294967295 - n + 1) ≡ print_value (twos_complement n)
+-- below zero: m is its distance from there
+pub value-large : (n m : ℕ) → 2147483648 ≤ n → m ≡ 4294967295 - n + 1 → 45 ∷ decimal m ≡ print_value (twos_complement n)
 unfolding print_value twos_complement
-value-large n h = let one : 4294967295 - n + 1 ≡ suc (4294967295 - n) = omega arith in rw (le-ltb n 2147483648 h, one)
+value-large n m h e = let one : m ≡ suc (4294967295 - n) = omega arith in rw (le-ltb n 2147483648 h, one)
 
 module _ (s : Bytes) (e p : ℕ) (l m : Bytes) (at : ℕ) where
   -- ---- constants

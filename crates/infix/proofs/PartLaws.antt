@@ -1,5 +1,6 @@
 -- What is printed of a reading, from what is printed of its parts.
-use mathlib.Core.Path.{◌≡◌, subst, ◌∙◌}
+use Rattle.std.specs.Prelude.{Option, Some}
+use mathlib.Core.Path.{◌≡◌, subst, sym, ap, ◌∙◌}
 use mathlib.Core.List.{◌++◌}
 use Prim.Native.Nat.{ℕ}
 use Rattle.rules.specs.Refusal.{Refusal}
@@ -8,6 +9,12 @@ use Rattle.writing.specs.Out.{Writes}
 use Rattle.writing.proofs.Written.{then-writes, same_text}
 use Rattle.infix.specs.Prints.{Prints}
 use Rattle.infix.specs.declared.Walked.{Walked}
+
+-- ---- the kind of what stands at a place
+
+-- where the code's kind is some v, the rule's is v's
+pub kind-is : {K J : Type 0} (f : Option K → J) {o : Option K} {k v : K} {j : J} → f o ≡ j → o ≡ Some k → k ≡ v → j ≡ f (Some v)
+kind-is f e h i = sym e ∙ ap f h ∙ ap (λ x. f (Some x)) i
 
 -- ---- one reading
 

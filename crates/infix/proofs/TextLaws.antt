@@ -15,6 +15,8 @@ use Rattle.expression.specs.Kind.{relation_of}
 use Rattle.printed.specs.Print.{in_parentheses, binding, sign, print_arith, any_arith, any_condition, one_condition, print_condition}
 use Rattle.infix.specs.Prints.{Prints, opening, closing, relation_sign}
 use Rattle.infix.specs.declared.Walked.{Walked}
+use Rattle.expression.proofs.kind.Laws.{at_constant, at_register, at-unknown, at-unknown-condition}
+use Rattle.infix.proofs.PartLaws.{prints-bad}
 
 -- two texts and what stands between them, in parentheses or not
 grouped : (b : Bool) (x m y : Bytes) → opening b ++ (x ++ (m ++ (y ++ closing b))) ≡ in_parentheses b (x ++ (m ++ y))
@@ -62,3 +64,8 @@ conjunction-text strength c d = grouped (ltb any_condition strength) (print_cond
 pub condition-none : (F : Condition → Bytes) (s : Bytes) (e n p d : ℕ) (l m : Bytes) (at : ℕ) (w : Walked) → d ≡ 0 → Prints F (read_condition d s e n p) l at m w
 unfolding read_condition Prints
 condition-none F s e n p d l m at w q = rw q tt
+
+-- what the search is given for the two recursions
+pub ruleset arith_laws = (at_constant, at_register, at-unknown, arith-none, prints-bad)
+
+pub ruleset condition_laws = (at-unknown-condition, condition-none, prints-bad)

@@ -11,6 +11,7 @@ use expression::kind::{ArithKind, arith_at};
 
 // Strength is how strongly an expression must bind to stand here without parentheses. The left operand binds as its operator does,
 // the right one more.
+#[tactic(auto, using(crate::proofs::TextLaws::arith_laws))]
 pub fn print_arith(
     s: &[u8],
     at: usize,
@@ -26,11 +27,10 @@ pub fn print_arith(
     if depth == 0 {
         return Walked { next: at, at: from };
     }
-    let kind = arith_at(s, at, end);
-    match kind {
-        ArithKind::Constant => print_constant(s, at + 1, end, out, from),
-        ArithKind::Register => print_register(s, at + 1, end, out, from),
-        ArithKind::Operation(o) => {
+    match arith_at(s, at, end) {
+        Some(ArithKind::Constant) => print_constant(s, at + 1, end, out, from),
+        Some(ArithKind::Register) => print_register(s, at + 1, end, out, from),
+        Some(ArithKind::Operation(o)) => {
             let b = binding(o);
             let grouped = b < strength;
             let first = open_group(out, from, grouped);
@@ -39,6 +39,6 @@ pub fn print_arith(
             let right = print_arith(s, left.next, end, depth - 1, b + 1, out, second);
             close_group(out, right, grouped)
         }
-        ArithKind::Unknown => Walked { next: at, at: from },
+        None => Walked { next: at, at: from },
     }
 }

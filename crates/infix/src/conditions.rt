@@ -20,8 +20,10 @@ const ONE_CONDITION: usize = 2;
 fn print_word(word: &[u8], next: usize, out: &mut [u8], from: usize) -> Walked
     ensures { (result.next ≡ next) × Writes word.now out.old from out.new result.at }
 {
-    let at = put_bytes(out, from, word);
-    Walked { next, at }
+    Walked {
+        next,
+        at: put_bytes(out, from, word),
+    }
 }
 
 // The two sides of a comparison.
@@ -43,6 +45,7 @@ fn print_comparison(
 }
 
 // Strength is how strongly a condition must bind to stand here without parentheses.
+#[tactic(auto, using(crate::proofs::TextLaws::condition_laws))]
 pub fn print_condition(
     s: &[u8],
     at: usize,
@@ -58,15 +61,14 @@ pub fn print_condition(
     if depth == 0 {
         return Walked { next: at, at: from };
     }
-    let kind = condition_at(s, at, end);
-    match kind {
-        ConditionKind::Always => print_word(b"true", at + 1, out, from),
-        ConditionKind::Never => print_word(b"false", at + 1, out, from),
-        ConditionKind::Negation => {
+    match condition_at(s, at, end) {
+        Some(ConditionKind::Always) => print_word(b"true", at + 1, out, from),
+        Some(ConditionKind::Never) => print_word(b"false", at + 1, out, from),
+        Some(ConditionKind::Negation) => {
             let first = put(out, from, b'!');
             print_condition(s, at + 1, end, depth - 1, ONE_CONDITION, out, first)
         }
-        ConditionKind::Conjunction => {
+        Some(ConditionKind::Conjunction) => {
             let grouped = ANY_CONDITION < strength;
             let first = open_group(out, from, grouped);
             let left = print_condition(s, at + 1, end, depth - 1, ANY_CONDITION, out, first);
@@ -74,7 +76,15 @@ pub fn print_condition(
             let right = print_condition(s, left.next, end, depth - 1, ONE_CONDITION, out, second);
             close_group(out, right, grouped)
         }
-        ConditionKind::Comparison(o) => print_comparison(s, at + 1, end, depth - 1, o, out, from),
-        ConditionKind::UnknownCondition => Walked { next: at, at: from },
+        Some(ConditionKind::Comparison(o)) => print_comparison(
+            s,
+            at + 1,
+            end,
+            depth - 1,
+            o,
+            out,
+            from,
+        ),
+        None => Walked { next: at, at: from },
     }
 }

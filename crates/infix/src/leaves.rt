@@ -9,15 +9,19 @@ use crate::Walked;
 use expression::num32_at;
 use writing::{put, put_decimal};
 
+// From this number on a number of 32 bits stands for one below zero.
+const SIGN: u32 = 2147483648;
+
 // A number of 32 bits as two's complement.
 pub fn put_value(out: &mut [u8], from: usize, n: u32) -> usize
     ensures { Writes (print_value (twos_complement n)) out.old from out.new result }
 {
-    if n < 2147483648 {
-        return put_decimal(out, from, n as usize);
+    if n < SIGN {
+        put_decimal(out, from, n as usize)
+    } else {
+        let at = put(out, from, b'-');
+        put_decimal(out, at, n.wrapping_neg() as usize)
     }
-    let at = put(out, from, b'-');
-    put_decimal(out, at, (4294967295 - n) as usize + 1)
 }
 
 // The constant whose four bytes stand at p.
@@ -28,9 +32,10 @@ pub(crate) fn print_constant(s: &[u8], p: usize, end: usize, out: &mut [u8], fro
     if end < p + 4 {
         return Walked { next: p, at: from };
     }
-    let n = num32_at(s, p);
-    let at = put_value(out, from, n);
-    Walked { next: p + 4, at }
+    Walked {
+        next: p + 4,
+        at: put_value(out, from, num32_at(s, p)),
+    }
 }
 
 // The register whose number stands at p.
@@ -42,6 +47,8 @@ pub(crate) fn print_register(s: &[u8], p: usize, end: usize, out: &mut [u8], fro
         return Walked { next: p, at: from };
     }
     let behind = put(out, from, b'r');
-    let at = put_decimal(out, behind, s[p] as usize);
-    Walked { next: p + 1, at }
+    Walked {
+        next: p + 1,
+        at: put_decimal(out, behind, usize::from(s[p])),
+    }
 }

@@ -15,10 +15,8 @@ pub(crate) fn binding(o: Operator) -> usize
     ensures { (result ≡ Rule.binding (operator_of o)) × (result ≤ 2) }
 {
     match o {
-        Operator::Plus => 1,
-        Operator::Minus => 1,
-        Operator::Times => 2,
-        Operator::Divide => 2,
+        Operator::Plus | Operator::Minus => 1,
+        Operator::Times | Operator::Divide => 2,
     }
 }
 
@@ -46,10 +44,7 @@ pub(crate) fn put_relation(out: &mut [u8], at: usize, o: Relation) -> usize
 pub(crate) fn open_group(out: &mut [u8], at: usize, grouped: bool) -> usize
     ensures { Writes (opening grouped) out.old at out.new result }
 {
-    if grouped {
-        return put(out, at, b'(');
-    }
-    at
+    if grouped { put(out, at, b'(') } else { at }
 }
 
 // The closing one, behind the last operand.
@@ -57,11 +52,11 @@ pub(crate) fn close_group(out: &mut [u8], last: Walked, grouped: bool) -> Walked
     ensures { (result.next ≡ last.next) × Writes (closing grouped) out.old last.at out.new result.at }
 {
     if grouped {
-        let at = put(out, last.at, b')');
-        return Walked {
-            next: last.next,
-            at,
-        };
+        Walked {
+            at: put(out, last.at, b')'),
+            ..last
+        }
+    } else {
+        last
     }
-    last
 }

@@ -1,14 +1,29 @@
--- The hull of four values, as the code forms it: two by two, and over the ends of two intervals. For every width. Assumes nothing.
-use mathlib.Core.Path.{◌≡◌, ap₂, ◌∙◌}
-use lib.IntN.{ℤ}
-use Rattle.rules.specs.Interval.{Interval, interval, min_z, max_z, hull}
+-- The hull of what an operation gives at the ends of two spans, as the code forms it. For every width. Assumes nothing.
+use Rattle.std.specs.Prelude.{◌≡◌, ℤ}
+use Rattle.std.specs.Ordering.{int_cmp}
+use mathlib.Core.Path.{ap, ap₂, ◌∙◌}
+use Rattle.rules.specs.Interval.{interval, min_z, max_z, hull}
+use Rattle.interval.specs.declared.Val.{Val}
+use Rattle.interval.specs.declared.Span.{Span}
+use Rattle.interval.specs.Shape.{interval_of}
+use Rattle.interval.specs.Bounds.{EndsOf}
+use Rattle.interval.proofs.Order.{least_is, greatest_is}
 
--- an operation on what it gives of two pairs
-pub two-by-two : (f : ℤ → ℤ → ℤ) {p q r s x y z : ℤ} → x ≡ f p q → y ≡ f r s → z ≡ f x y → z ≡ f (f p q) (f r s)
-two-by-two f left right both = both ∙ ap₂ f left right
-
--- the hull of the four values that a function takes at the ends of two intervals
-module _ (f : ℤ → ℤ → ℤ) (i j : Interval) {p q r s : ℤ} (low_low : p ≡ f i.low j.low) (low_high : q ≡ f i.low j.high) (high_low : r ≡ f i.high j.low) (high_high : s ≡ f i.high j.high) where
-  pub hull-at-ends : interval (min_z (min_z p q) (min_z r s)) (max_z (max_z p q) (max_z r s)) ≡ hull f i j
+-- z is the number that a result stands for, and f the operation on the numbers
+module _ {T : Type 0} (z : T → ℤ) (f : ℤ → ℤ → ℤ) (gives : Val → Val → T → Type 0) (a b : Span) (least greatest : T)
+    (is : (x y : Val) (r : T) → gives x y r → z r ≡ f x.0 y.0) (e : EndsOf (λ x y. int_cmp (z x) (z y)) gives a b least greatest) where
+  low_is : z least ≡ (hull f (interval_of a) (interval_of b)).low
   unfolding hull
-  hull-at-ends = rw (low_low, low_high, high_low, high_high)
+  low_is =
+      ap z e.is_least ∙ least_is z _ _
+      ∙ ap₂ min_z (least_is z e.p e.q ∙ ap₂ min_z (is _ _ _ e.low_low) (is _ _ _ e.low_high)) (least_is z e.r e.s ∙ ap₂ min_z (is _ _ _ e.high_low) (is _ _ _ e.high_high))
+
+  high_is : z greatest ≡ (hull f (interval_of a) (interval_of b)).high
+  unfolding hull
+  high_is =
+      ap z e.is_greatest ∙ greatest_is z _ _
+      ∙ ap₂ max_z (greatest_is z e.p e.q ∙ ap₂ max_z (is _ _ _ e.low_low) (is _ _ _ e.low_high)) (greatest_is z e.r e.s ∙ ap₂ max_z (is _ _ _ e.high_low) (is _ _ _ e.high_high))
+
+  pub ends_are : interval (z least) (z greatest) ≡ hull f (interval_of a) (interval_of b)
+  unfolding hull
+  ends_are = ap₂ interval low_is high_is

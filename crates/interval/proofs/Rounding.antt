@@ -141,9 +141,6 @@ magnitude-small x y hx hy ne = go (differ x y) refl
 pub one-small : mag (pos 1) ≤ 2 ^ 31
 one-small = omega arith
 
-pub divides : (y n : ℤ) → y ≢ pos 0 → n ≡ pos (nat_abs y) → 0 < of_z w64 n
-divides y n ne e = rw e (positive y ne)
-
 module _ (x y m n : ℤ) (hx : SFits w32 x) (hy : SFits w32 y) (ne : y ≢ pos 0) (em : m ≡ pos (nat_abs x)) (en : n ≡ pos (nat_abs y)) where
   sm : mag (held m) ≤ 2 ^ 31
   sm = held_small x m hx em
@@ -188,5 +185,5 @@ module _ (x y q : ℤ) (hx : SFits w32 x) (hy : SFits w32 y) (ne : y ≢ pos 0) 
       to_z-of_z negation-fits ∙ ap (λ (z : ℤ). pos 0 -ℤ z) held-q ∙ +ℤ_idl (neg_ℤ (pos (nat_abs (quotient x y))))
       ∙ is_negative x y (signs x y hx hy true t) ne
 
-  pub magnitude-is : differ (to_z w32 (of_z w32 x)) (to_z w32 (of_z w32 y)) ≡ false → q ≡ quotient x y
-  magnitude-is t = e ∙ is_positive x y (signs x y hx hy false t)
+  pub magnitude-is : differ (to_z w32 (of_z w32 x)) (to_z w32 (of_z w32 y)) ≡ false → held q ≡ quotient x y
+  magnitude-is t = held-q ∙ is_positive x y (signs x y hx hy false t)

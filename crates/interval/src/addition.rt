@@ -4,38 +4,29 @@ ghost use Rattle.rules.specs.Constants.{half32};
 ghost use Rattle.rules.specs.Interval.{combine, plus, minus};
 ghost use Rattle.interval.specs.Shape.{interval_of, result_of};
 
-use crate::{Reading, Span, Val, Wide, hull};
+use crate::{Span, Val, hull};
+use refusal::Refusal;
 
-pub(crate) fn add(a: Val, b: Val) -> Wide
-    ensures { result.0 ≡ a.0 +ℤ b.0 }
+fn add(a: Val, b: Val) -> i64
+    ensures { result ≡ a.0 +ℤ b.0 }
 {
-    Wide(a.0 as i64 + b.0 as i64)
+    i64::from(a.0) + i64::from(b.0)
 }
 
-pub(crate) fn subtract(a: Val, b: Val) -> Wide
-    ensures { result.0 ≡ a.0 -ℤ b.0 }
+fn subtract(a: Val, b: Val) -> i64
+    ensures { result ≡ a.0 -ℤ b.0 }
 {
-    Wide(a.0 as i64 - b.0 as i64)
+    i64::from(a.0) - i64::from(b.0)
 }
 
-pub(crate) fn sum(a: Span, b: Span) -> Reading
+pub(crate) fn sum(a: Span, b: Span) -> Result<Span, Refusal>
     ensures { result_of result ≡ combine half32 plus (interval_of a) (interval_of b) }
 {
-    hull(
-        add(a.low, b.low),
-        add(a.low, b.high),
-        add(a.high, b.low),
-        add(a.high, b.high),
-    )
+    hull(add, a, b)
 }
 
-pub(crate) fn difference(a: Span, b: Span) -> Reading
+pub(crate) fn difference(a: Span, b: Span) -> Result<Span, Refusal>
     ensures { result_of result ≡ combine half32 minus (interval_of a) (interval_of b) }
 {
-    hull(
-        subtract(a.low, b.low),
-        subtract(a.low, b.high),
-        subtract(a.high, b.low),
-        subtract(a.high, b.high),
-    )
+    hull(subtract, a, b)
 }

@@ -2,19 +2,19 @@
 // and gives what the rules give for the same intervals.
 #![tactic(auto)]
 
-ghost use Rattle.std.specs.Prelude.{◌≡◌};
+ghost use Rattle.std.specs.Prelude.{◌≡◌, ℤ, if◌then◌else◌};
 ghost use Rattle.std.proofs.Math.IntN.{suc_ℤ, pred_ℤ};
 ghost use Rattle.std.specs.Int.Signed.{le_z, lt_z};
 ghost use Rattle.std.specs.Int.{w32};
 ghost use Rattle.std.proofs.Common.{SFits};
 ghost use Rattle.rules.specs.Constants.{half32};
-ghost use Rattle.rules.specs.Refusal.{value, on_both};
-ghost use Rattle.rules.specs.Interval.{interval, in_range, min_z, max_z, eq_z, within, combine, meet, join};
+ghost use Rattle.rules.specs.Refusal.{on_both};
+ghost use Rattle.rules.specs.Interval.{interval, in_range, eq_z, hull, within, combine, meet, join};
 ghost use Rattle.rules.specs.Expression.{at_most, at_least};
 ghost use Rattle.interval.specs.Shape.{interval_of, result_of, operator_of};
-ghost use Rattle.interval.specs.Bounds.{holds};
+ghost use Rattle.interval.specs.Bounds.{holds, EndsOf};
 
-use addition::{add, difference, subtract, sum};
+use addition::{difference, sum};
 use division::quotient;
 use multiplication::product;
 use refusal::Refusal;
@@ -24,7 +24,7 @@ mod multiplication; // product
 mod division; // quotient
 
 // A value of a register or a variable.
-#[derive(Clone, Copy)]
+#[derive(Clone, Copy, PartialEq, Eq, PartialOrd, Ord)]
 pub struct Val(pub i32);
 
 // The values from low to high, both included: none where low is above high.
@@ -32,13 +32,6 @@ pub struct Val(pub i32);
 pub struct Span {
     pub low: Val,
     pub high: Val,
-}
-
-// The span of an expression, or the refusal that stands in its way.
-#[derive(Clone, Copy)]
-pub enum Reading {
-    Is(Span),
-    Fault(Refusal),
 }
 
 #[derive(Clone, Copy)]
@@ -49,68 +42,56 @@ pub enum Operator {
     Divide,
 }
 
-// A result before its range is tested. A struct and no plain i64: contracts then speak of its number, and not of its bits.
-#[derive(Clone, Copy)]
-struct Wide(i64);
+// ---- a span of results. They are formed in 64 bits, before their range is tested
 
-// ---- the span round four results
-
-fn least(a: Wide, b: Wide) -> Wide
-    ensures { result.0 ≡ min_z a.0 b.0 }
+// The least and the greatest of what f gives at the ends of two spans.
+fn ends<T: Ord + Copy, F: Fn(Val, Val) -> T>(f: F, a: Span, b: Span) -> (T, T)
+    requires low_low { F.pre f a.low b.low }
+    requires low_high { F.pre f a.low b.high }
+    requires high_low { F.pre f a.high b.low }
+    requires high_high { F.pre f a.high b.high }
+    ensures { EndsOf T.cmp (F.post f) a b result.0 result.1 }
 {
-    if a.0 <= b.0 { a } else { b }
+    let p = f(a.low, b.low);
+    let q = f(a.low, b.high);
+    let r = f(a.high, b.low);
+    let s = f(a.high, b.high);
+    (p.min(q).min(r.min(s)), p.max(q).max(r.max(s)))
 }
 
-fn greatest(a: Wide, b: Wide) -> Wide
-    ensures { result.0 ≡ max_z a.0 b.0 }
+fn narrow(a: i64) -> Result<Val, Refusal>
+    ensures { result ≡ (if in_range half32 a then Ok (record { 0 = a }) else Err Refusal.OffScale) }
 {
-    if a.0 <= b.0 { b } else { a }
-}
-
-fn in_range(a: Wide) -> bool
-    ensures { result ≡ in_range half32 a.0 }
-{
-    let x = a.0;
-    -2147483648 <= x && x < 2147483648
-}
-
-fn narrow(a: Wide) -> Val
-    requires { SFits w32 a.0 }
-    ensures { result.0 ≡ a.0 }
-{
-    Val(a.0 as i32)
-}
-
-// The span of two ends, unless one of them leaves the 32-bit values.
-fn span_within(low: Wide, high: Wide) -> Reading
-    ensures { result_of result ≡ within half32 (interval low.0 high.0) }
-{
-    if in_range(low) {
-        if in_range(high) {
-            let l = narrow(low);
-            let h = narrow(high);
-            let s = Span { low: l, high: h };
-            Reading::Is(s)
-        } else {
-            Reading::Fault(Refusal::OffScale)
-        }
-    } else {
-        Reading::Fault(Refusal::OffScale)
+    match i32::try_from(a) {
+        Ok(x) => Ok(Val(x)),
+        Err(_) => Err(Refusal::OffScale),
     }
 }
 
-fn hull(p: Wide, q: Wide, r: Wide, s: Wide) -> Reading
-    ensures { result_of result ≡ within half32 (interval (min_z (min_z p.0 q.0) (min_z r.0 s.0)) (max_z (max_z p.0 q.0) (max_z r.0 s.0))) }
+// The span of two ends, unless one of them leaves the 32-bit values.
+#[tactic(auto, unfolding(rules::specs::Interval::within, rules::specs::Interval::fits))]
+fn span_within(low: i64, high: i64) -> Result<Span, Refusal>
+    ensures { result_of result ≡ within half32 (interval low high) }
 {
-    span_within(
-        least(least(p, q), least(r, s)),
-        greatest(greatest(p, q), greatest(r, s)),
-    )
+    Ok(Span {
+        low: narrow(low)?,
+        high: narrow(high)?,
+    })
+}
+
+// The span of what f gives at the ends of two spans, unless one of its own ends leaves the 32-bit values.
+fn hull<F: Fn(Val, Val) -> i64>(f: F, a: Span, b: Span) -> Result<Span, Refusal>
+    requires { F.IsAlwaysCallable f }
+    ensures { (g : ℤ → ℤ → ℤ) → ((x y : Val) (r : ℤ) → F.post f x y r → r ≡ g x.0 y.0)
+        → result_of result ≡ within half32 (hull g (interval_of a) (interval_of b)) }
+{
+    let (low, high) = ends(f, a, b);
+    span_within(low, high)
 }
 
 // ---- operators on spans, and on readings
 
-fn combine(o: Operator, a: Span, b: Span) -> Reading
+fn combine(o: Operator, a: Span, b: Span) -> Result<Span, Refusal>
     ensures { result_of result ≡ combine half32 (operator_of o) (interval_of a) (interval_of b) }
 {
     match o {
@@ -121,23 +102,16 @@ fn combine(o: Operator, a: Span, b: Span) -> Reading
     }
 }
 
-// The operator on two readings: the first fault from the left is passed up.
-pub fn combine_readings(o: Operator, x: Reading, y: Reading) -> Reading
+// The operator on two readings, each a span or the refusal that stands in its way: the first fault from the left is passed up.
+#[tactic(auto, unfolding(rules::specs::Refusal::on_both))]
+pub fn combine_readings(
+    o: Operator,
+    x: Result<Span, Refusal>,
+    y: Result<Span, Refusal>,
+) -> Result<Span, Refusal>
     ensures { result_of result ≡ on_both (combine half32 (operator_of o)) (result_of x) (result_of y) }
 {
-    match x {
-        Reading::Fault(r) => Reading::Fault(r),
-        Reading::Is(a) => combine_right(o, a, y),
-    }
-}
-
-fn combine_right(o: Operator, a: Span, y: Reading) -> Reading
-    ensures { result_of result ≡ on_both (combine half32 (operator_of o)) (value (interval_of a)) (result_of y) }
-{
-    match y {
-        Reading::Fault(r) => Reading::Fault(r),
-        Reading::Is(b) => combine(o, a, b),
-    }
+    combine(o, x?, y?)
 }
 
 // ---- comparisons of values
@@ -145,77 +119,71 @@ fn combine_right(o: Operator, a: Span, y: Reading) -> Reading
 pub fn at_most(a: Val, b: Val) -> bool
     ensures { result ≡ le_z a.0 b.0 }
 {
-    a.0 <= b.0
+    a <= b
 }
 
 pub fn below(a: Val, b: Val) -> bool
     ensures { result ≡ lt_z a.0 b.0 }
 {
-    a.0 < b.0
+    a < b
 }
 
+#[tactic(auto, using(crate::proofs::Order::equal_is))]
 pub fn equal(a: Val, b: Val) -> bool
     ensures { result ≡ eq_z a.0 b.0 }
 {
-    if at_most(a, b) { at_most(b, a) } else { false }
+    a == b
 }
 
 // Whether a value lies on a span.
+#[tactic(auto, unfolding(crate::specs::Bounds::holds))]
 pub fn holds(s: Span, a: Val) -> bool
     ensures { result ≡ holds (interval_of s) a.0 }
 {
-    if at_most(s.low, a) {
-        at_most(a, s.high)
-    } else {
-        false
-    }
-}
-
-fn lower(a: Val, b: Val) -> Val
-    ensures { result.0 ≡ min_z a.0 b.0 }
-{
-    if a.0 <= b.0 { a } else { b }
-}
-
-fn upper(a: Val, b: Val) -> Val
-    ensures { result.0 ≡ max_z a.0 b.0 }
-{
-    if a.0 <= b.0 { b } else { a }
+    at_most(s.low, a) && at_most(a, s.high)
 }
 
 // ---- spans met, joined and cut
 
+#[tactic(auto, using(crate::proofs::Order::lower_is, crate::proofs::Order::upper_is), unfolding(rules::specs::Interval::meet))]
 pub fn meet(a: Span, b: Span) -> Span
     ensures { interval_of result ≡ meet (interval_of a) (interval_of b) }
 {
-    let l = upper(a.low, b.low);
-    let h = lower(a.high, b.high);
-    Span { low: l, high: h }
+    Span {
+        low: a.low.max(b.low),
+        high: a.high.min(b.high),
+    }
 }
 
+#[tactic(auto, using(crate::proofs::Order::lower_is, crate::proofs::Order::upper_is), unfolding(rules::specs::Interval::join))]
 pub fn join(a: Span, b: Span) -> Span
     ensures { interval_of result ≡ join (interval_of a) (interval_of b) }
 {
-    let l = lower(a.low, b.low);
-    let h = upper(a.high, b.high);
-    Span { low: l, high: h }
+    Span {
+        low: a.low.min(b.low),
+        high: a.high.max(b.high),
+    }
 }
 
 // The part of a span up to z, and the part from z.
+#[tactic(auto, using(crate::proofs::Order::lower_is), unfolding(rules::specs::Expression::at_most))]
 pub fn cut_above(z: Val, a: Span) -> Span
     ensures { interval_of result ≡ at_most z.0 (interval_of a) }
 {
-    let l = a.low;
-    let h = lower(a.high, z);
-    Span { low: l, high: h }
+    Span {
+        high: a.high.min(z),
+        ..a
+    }
 }
 
+#[tactic(auto, using(crate::proofs::Order::upper_is), unfolding(rules::specs::Expression::at_least))]
 pub fn cut_below(z: Val, a: Span) -> Span
     ensures { interval_of result ≡ at_least z.0 (interval_of a) }
 {
-    let l = upper(a.low, z);
-    let h = a.high;
-    Span { low: l, high: h }
+    Span {
+        low: a.low.max(z),
+        ..a
+    }
 }
 
 // The value after a, and the one before: the caller knows that it is one.
@@ -223,12 +191,12 @@ pub fn next(a: Val) -> Val
     requires { SFits w32 (suc_ℤ a.0) }
     ensures { result.0 ≡ suc_ℤ a.0 }
 {
-    narrow(add(a, Val(1)))
+    Val(a.0 + 1)
 }
 
 pub fn previous(a: Val) -> Val
     requires { SFits w32 (pred_ℤ a.0) }
     ensures { result.0 ≡ pred_ℤ a.0 }
 {
-    narrow(subtract(a, Val(1)))
+    Val(a.0 - 1)
 }

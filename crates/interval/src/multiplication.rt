@@ -3,11 +3,12 @@ ghost use Rattle.std.specs.Prelude.{◌≡◌, ◌*ℤ◌};
 ghost use Rattle.std.specs.Int.{w32};
 ghost use Rattle.std.proofs.Common.{SFits};
 ghost use Rattle.rules.specs.Constants.{half32};
-ghost use Rattle.rules.specs.Interval.{interval, min_z, max_z, combine, times};
+ghost use Rattle.rules.specs.Interval.{combine, times};
 ghost use Rattle.interval.specs.Shape.{interval_of, result_of};
 ghost use Rattle.interval.specs.Bounds.{holds_ends};
 
-use crate::{Reading, Span, Val, Wide, holds, hull, lower, upper};
+use crate::{Span, Val, ends, holds, hull};
+use refusal::Refusal;
 
 // The signed values of 16 bits: the product of any two of them is a value of 32 bits.
 const SIXTEEN_BITS: Span = Span {
@@ -15,10 +16,10 @@ const SIXTEEN_BITS: Span = Span {
     high: Val(32767),
 };
 
-fn multiply(a: Val, b: Val) -> Wide
-    ensures { result.0 ≡ a.0 *ℤ b.0 }
+fn multiply(a: Val, b: Val) -> i64
+    ensures { result ≡ a.0 *ℤ b.0 }
 {
-    Wide(a.0 as i64 * b.0 as i64)
+    i64::from(a.0) * i64::from(b.0)
 }
 
 // The same, formed in 32 bits: the caller knows that it fits them.
@@ -30,43 +31,19 @@ fn multiply_in_32_bits(a: Val, b: Val) -> Val
 }
 
 // Whether both ends of a lie on s.
+#[tactic(auto, unfolding(crate::specs::Bounds::holds_ends))]
 fn holds_ends(s: Span, a: Span) -> bool
     ensures { result ≡ holds_ends (interval_of s) (interval_of a) }
 {
-    if holds(s, a.low) {
-        holds(s, a.high)
-    } else {
-        false
-    }
+    holds(s, a.low) && holds(s, a.high)
 }
 
-// The least span that holds four values.
-fn hull_of_values(p: Val, q: Val, r: Val, s: Val) -> Span
-    ensures { interval_of result ≡ interval (min_z (min_z p.0 q.0) (min_z r.0 s.0)) (max_z (max_z p.0 q.0) (max_z r.0 s.0)) }
-{
-    let low = lower(lower(p, q), lower(r, s));
-    let high = upper(upper(p, q), upper(r, s));
-    Span {
-        low: low,
-        high: high,
-    }
-}
-
-pub(crate) fn product(a: Span, b: Span) -> Reading
+pub(crate) fn product(a: Span, b: Span) -> Result<Span, Refusal>
     ensures { result_of result ≡ combine half32 times (interval_of a) (interval_of b) }
 {
     if holds_ends(SIXTEEN_BITS, a) && holds_ends(SIXTEEN_BITS, b) {
-        return Reading::Is(hull_of_values(
-            multiply_in_32_bits(a.low, b.low),
-            multiply_in_32_bits(a.low, b.high),
-            multiply_in_32_bits(a.high, b.low),
-            multiply_in_32_bits(a.high, b.high),
-        ));
+        let (low, high) = ends(multiply_in_32_bits, a, b);
+        return Ok(Span { low, high });
     }
-    hull(
-        multiply(a.low, b.low),
-        multiply(a.low, b.high),
-        multiply(a.high, b.low),
-        multiply(a.high, b.high),
-    )
+    hull(multiply, a, b)
 }

@@ -1,13 +1,10 @@
 -- The code's answer as the rules' five numbers.
-use Rattle.std.specs.Prelude.{◌≡◌, ◌&&◌, List, [], ◌∷◌, ℕ, leb, ℤ, length, if◌then◌else◌}
+use Rattle.std.specs.Prelude.{◌≡◌, List, [], ◌∷◌, ℕ, ℤ, length}
 use Rattle.rules.specs.Base.{at_front}
-use Rattle.rules.specs.Refusal.{number, label_broken}
 use Rattle.rules.specs.Format.{Bytes}
 use Rattle.rules.specs.Search as S
 use Rattle.rules.specs.Search.{five, judge, answer}
 use Rattle.rules.specs.Demands.{WindowInside}
-use Rattle.search.specs.declared.run.Window.{Window}
-use Rattle.search.specs.declared.whole.Label.{Label}
 use Rattle.search.specs.Whole.{Search, unread, ended}
 use Rattle.label.specs.declared.Answer.{Answer}
 
@@ -16,15 +13,6 @@ answer_of a = five a.refusal a.place a.steps a.low a.high
 
 abbrev pub five_of : ℕ → ℕ → ℕ → ℕ → ℕ → Answer
 five_of r p n a b = record { refusal = r; place = p; steps = n; low = a; high = b }
-
--- the answer to a window, by the label
-abbrev pub by_label : Label → ℕ → Window → Answer
-by_label l n w =
-    five_of (if leb l.low.0 w.low.0 && leb w.high.0 l.high.0 then 0 else number label_broken) 0 n w.low.0 w.high.0
-
--- the answer to a search that ended without a refusal
-abbrev pub windowed : Label → ℕ → Window → Answer
-windowed l n w = if w.seen then by_label l n w else five_of (number label_broken) 0 n 0 0
 
 -- the answer to the search of a sheet
 abbrev pub answer_to : Search → S.Answer

@@ -4,16 +4,18 @@
 ghost use Rattle.std.specs.Prelude.{◌≡◌, ◌&&◌, leb, length};
 ghost use Rattle.rules.specs.Base.{at_front};
 ghost use Rattle.rules.specs.Search as S;
-ghost use Rattle.rules.specs.Search.{judge};
+ghost use Rattle.rules.specs.Search.{judge, finds, seen};
 ghost use Rattle.rules.specs.Demands.{AllZeros, Unchanged, FollowsTheRules, WindowInside, HoldsOfSheet};
-ghost use Rattle.search.specs.Run.{end_of};
-ghost use Rattle.label.specs.Shape.{answer_of, five_of, windowed, by_label, WindowOf, listed, FiveIn};
+ghost use Rattle.search.specs.Run.{window_of, end_of};
+ghost use Rattle.search.specs.Whole.{searched_of};
+ghost use Rattle.label.specs.Shape.{answer_of, five_of, answer_to, WindowOf, listed, FiveIn};
 
-use refusal::{Refusal, number_of};
+use refusal::{Fault, Refusal};
 use search::{Label, Outcome, Searched, Window, search_sheet};
+use writing::put_front;
 
 // Refusal 0 is acceptance; low and high are then the window of finishing ticks.
-#[derive(Clone, Copy)]
+#[derive(Clone, Copy, PartialEq, Eq)]
 pub struct Answer {
     pub refusal: u32,
     pub place: usize,
@@ -27,9 +29,9 @@ pub fn refused(refusal: u32, place: usize, steps: u32) -> Answer
     ensures { result ≡ five_of refusal place steps 0 0 }
 {
     Answer {
-        refusal: refusal,
-        place: place,
-        steps: steps,
+        refusal,
+        place,
+        steps,
         low: 0,
         high: 0,
     }
@@ -40,9 +42,9 @@ fn five(refusal: u32, steps: u32, w: Window) -> Answer
     ensures { result ≡ five_of refusal 0 steps w.low.0 w.high.0 }
 {
     Answer {
-        refusal: refusal,
+        refusal,
         place: 0,
-        steps: steps,
+        steps,
         low: w.low.0,
         high: w.high.0,
     }
@@ -52,44 +54,49 @@ fn five(refusal: u32, steps: u32, w: Window) -> Answer
 fn inside(label: Label, w: Window) -> bool
     ensures { result ≡ (leb label.low.0 w.low.0 && leb w.high.0 label.high.0) }
 {
-    if label.low.0 <= w.low.0 {
-        return w.high.0 <= label.high.0;
-    }
-    false
+    label.low <= w.low && w.high <= label.high
 }
 
 // The answer to a window, by the label.
+#[tactic(auto, unfolding(rules::specs::Search::judge))]
 fn by_label(label: Label, steps: u32, w: Window) -> Answer
-    ensures { result ≡ by_label label steps w }
+    ensures { answer_of result ≡ judge label.low.0 label.high.0 (finds steps (seen w.low.0 w.high.0)) }
 {
     if inside(label, w) {
         return five(0, steps, w);
     }
-    let number = number_of(Refusal::LabelBroken);
-    five(number, steps, w)
+    five(u32::from(Refusal::LabelBroken), steps, w)
 }
 
 // The answer to a search that ended without a refusal. It has found a window; one that had not would be refused.
-fn found(label: Label, steps: u32, w: Window) -> Answer
-    ensures { result ≡ windowed label steps w }
+#[tactic(auto, unfolding(rules::specs::Search::judge))]
+fn found(label: Label, steps: u32, window: Option<Window>) -> Answer
+    ensures { answer_of result ≡ judge label.low.0 label.high.0 (finds steps (window_of window)) }
 {
-    if w.seen {
-        return by_label(label, steps, w);
+    match window {
+        Some(w) => by_label(label, steps, w),
+        None => refused(u32::from(Refusal::LabelBroken), 0, steps),
     }
-    let number = number_of(Refusal::LabelBroken);
-    refused(number, 0, steps)
 }
 
 // The answer to a search that ended.
+#[tactic(auto, unfolding(rules::specs::Search::judge))]
 fn judged(label: Label, o: Outcome) -> Answer
     ensures { answer_of result ≡ judge label.low.0 label.high.0 (end_of o) }
 {
-    match o {
-        Outcome::Fails(q, p, n) => {
-            let number = number_of(q);
-            refused(number, p, n)
-        }
-        Outcome::Finds(n, w) => found(label, n, w),
+    match o.end {
+        Err(fault) => refused(u32::from(fault.refusal), fault.place, o.steps),
+        Ok(window) => found(label, o.steps, window),
+    }
+}
+
+// The answer to the search of a sheet.
+fn answered(searched: Result<Searched, Fault>) -> Answer
+    ensures { answer_of result ≡ answer_to (searched_of searched) }
+{
+    match searched {
+        Err(fault) => refused(u32::from(fault.refusal), fault.place, 0),
+        Ok(searched) => judged(searched.label, searched.outcome),
     }
 }
 
@@ -101,11 +108,7 @@ pub fn check(sheet: &[u8], work: &mut [i32]) -> Answer
     ensures all_zeros { AllZeros work.old work.new }
     ensures unchanged { Unchanged sheet.now sheet.now }
 {
-    let s = search_sheet(sheet, work);
-    match s {
-        Searched::Unread(k, p) => refused(k, p, 0),
-        Searched::Ended(label, o) => judged(label, o),
-    }
+    answered(search_sheet(sheet, work))
 }
 
 // The five numbers in the order refusal, place, steps, low, high, at the front of a lent array. An array of fewer than five numbers is
@@ -113,14 +116,16 @@ pub fn check(sheet: &[u8], work: &mut [i32]) -> Answer
 pub fn put_answer(a: Answer, numbers: &mut [u64])
     ensures { numbers.new ≡ at_front (listed (answer_of a)) numbers.old }
 {
-    if numbers.len() < 5 {
-        return;
-    }
-    numbers[0] = a.refusal as u64;
-    numbers[1] = a.place as u64;
-    numbers[2] = a.steps as u64;
-    numbers[3] = a.low as u64;
-    numbers[4] = a.high as u64;
+    put_front(
+        numbers,
+        [
+            u64::from(a.refusal),
+            a.place as u64,
+            u64::from(a.steps),
+            u64::from(a.low),
+            u64::from(a.high),
+        ],
+    )
 }
 
 // The check for callers in C and in Rust: the refusal is returned, and the five numbers go to the front of a lent array. An array of

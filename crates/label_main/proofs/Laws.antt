@@ -32,7 +32,8 @@ line-holds s l h e =
     let f = fits-front s (zeros longest_five) l.bytes l.length e h in
     let whole : l.bytes ≡ s ++ zeros (longest_five - length s) = f.0 ∙ ap (λ (t : Bytes). s ++ t) (drop-zeros (length s) longest_five) in
     let size = ap length whole ∙ length-append s (zeros (longest_five - length s)) in
-    let rest : longest_five - length s ≡ length l.bytes - l.length = omega (arith, f.1, size, length-replicate {A = ℕ} (longest_five - length s) 0) in
+    let rest : longest_five - length s ≡ length l.bytes - l.length = omega
+    (arith, f.1, size, length-replicate {A = ℕ} (longest_five - length s) 0) in
     record {
       fits = omega (arith, f.1, size);
       front = ap₂ take f.1 whole ∙ take-append_seam s _;

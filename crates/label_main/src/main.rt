@@ -42,8 +42,7 @@ fn printed(sheet: &[u8]) -> Line
     ensures { Holds (P.printed sheet.now) result }
 {
     let mut work = [0i32; LENT];
-    let a = check(sheet, &mut work);
-    line_of(a)
+    line_of(check(sheet, &mut work))
 }
 
 // Reads standard input as far as there is room, and gives how many bytes it read.
@@ -56,8 +55,6 @@ fn read_sheet(rt: HostRuntime, sheet: &mut [u8; MOST_BYTES]) -> usize
 fn main(rt: HostRuntime) {
     let mut sheet = [0u8; MOST_BYTES];
     let n = read_sheet(rt, &mut sheet);
-    let l = printed(&sheet[..n]);
-    let bytes = l.bytes;
-    let end = l.length;
-    let _ = rt.write_all(&bytes[..end]);
+    let line = printed(&sheet[..n]);
+    let _ = rt.write_all(&line.bytes[..line.length]);
 }

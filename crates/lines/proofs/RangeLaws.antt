@@ -1,25 +1,16 @@
--- Lines of a word and a number or a range: the numbers that the code keeps, beside what they are.
+-- Ranges, and lines of a word and a range: the numbers that the code keeps, beside what they are.
 use mathlib.Core.Path.{◌≡◌, sym, ap, ◌∙◌}
-use mathlib.Core.Bool.{true, false}
+use mathlib.Core.Bool.{true}
 use Prim.Native.Nat.{ℕ}
 use lib.IntN.{ℤ}
 use lib.ListN.{drop}
 use Rattle.rules.specs.Format.{Bytes}
 use Rattle.rules.specs.Interval.{Interval, interval}
-use Rattle.text.specs.Words.{Read, stop, took, then_read, map_read, number, signed, line_end}
-use Rattle.text.specs.Lines.{word_only, range, head_line}
-use Rattle.scan.specs.Reading.{read_of, same, unit, capped, value_code}
-use Rattle.scan.specs.declared.step.Step.{Step}
+use Rattle.text.specs.Words.{Read, stop, took, map_read, signed}
+use Rattle.text.specs.Lines.{range, head_line}
+use Rattle.scan.specs.Reading.{value_code}
 use Rattle.scan.proofs.Readings.{map-stop, map-took, head-map, same_head, range-map, range-each}
 use Rattle.lines.specs.Reading.{one_end, pair}
-
--- a number
-pub number-line : (s : Bytes) (q : ℕ) (word : Bytes) (w n e : Step) → read_of unit s w ≡ word_only word (drop q s)
-    → read_of same s n ≡ then_read (read_of unit s w) (λ _ t. one_end false t) → read_of same s e ≡ then_read (read_of same s n) line_end
-    → read_of same s e ≡ map_read capped (head_line word number (drop q s))
-unfolding head_line
-number-line s q word w n e hw hn he =
-    he ∙ ap (λ g. then_read g line_end) (hn ∙ ap (λ g. then_read g (λ _ t. map_read capped (number t))) hw) ∙ head-map word number capped (drop q s)
 
 -- ---- two ends
 
@@ -81,13 +72,16 @@ module _ (s word : Bytes) (q : ℕ) where
   values = head_line word (both value_code interval signed) (drop q s)
 
   interval-is : ranged ≡ map_read (made value_code interval) values
-  interval-is = same_head word (made-is value_code interval signed) (drop q s) ∙ head-map word (both value_code interval signed) (made value_code interval) (drop q s)
+  interval-is = same_head word (made-is value_code interval signed) (drop q s)
+      ∙ head-map word (both value_code interval signed) (made value_code interval) (drop q s)
 
   pair_is : head_line word (range (one_end true) pair) (drop q s) ≡ map_read (codes value_code interval) values
-  pair_is = same_head word (codes_are value_code interval signed) (drop q s) ∙ head-map word (both value_code interval signed) (codes value_code interval) (drop q s)
+  pair_is = same_head word (codes_are value_code interval signed) (drop q s)
+      ∙ head-map word (both value_code interval signed) (codes value_code interval) (drop q s)
 
   pub head-stop : {w : Bytes} → head_line word (range (one_end true) pair) (drop q s) ≡ stop w → ranged ≡ stop w
   head-stop = ends-stop value_code interval values interval-is pair_is
 
-  pub head-took : {m n : ℕ} {w : Bytes} → head_line word (range (one_end true) pair) (drop q s) ≡ took (m, n) w → Ends value_code interval ranged m n w
+  pub head-took : {m n : ℕ} {w : Bytes} → head_line word (range (one_end true) pair) (drop q s) ≡ took (m, n) w
+      → Ends value_code interval ranged m n w
   head-took = ends-took value_code interval values interval-is pair_is

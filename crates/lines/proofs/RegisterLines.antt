@@ -15,7 +15,8 @@ use Rattle.lines.specs.Registers.{register_line, on_register, registers_in}
 
 -- ---- a `reg` line takes at least a byte
 
-then-eats : {A B : Type 0} {n : ℕ} (g : Read A) (f : A → Bytes → Read B) → Eats n g → ((a : A) (r : Bytes) → length r < n → Eats n (f a r)) → Eats n (then_read g f)
+then-eats : {A B : Type 0} {n : ℕ} (g : Read A) (f : A → Bytes → Read B) → Eats n g
+    → ((a : A) (r : Bytes) → length r < n → Eats n (f a r)) → Eats n (then_read g f)
 unfolding then_read
 then-eats (stop r) f h k = h
 then-eats (took a r) f h k = k a r h
@@ -47,7 +48,8 @@ register-shorter s e = subst (Eats (length s)) e (register-eats s)
 
 -- ---- turn by turn
 
-same-registers : (k : ℕ) (g : Read Interval) (f h : Bytes → ℕ) → Eats k g → ((r : Bytes) → length r < k → f r ≡ h r) → on_register g f ≡ on_register g h
+same-registers : (k : ℕ) (g : Read Interval) (f h : Bytes → ℕ) → Eats k g → ((r : Bytes) → length r < k → f r ≡ h r)
+    → on_register g f ≡ on_register g h
 unfolding on_register
 same-registers k (stop r) f h e q = refl
 same-registers k (took i r) f h e q = ap suc (q r e)
@@ -60,7 +62,8 @@ registers-enough zero (suc m) (b ∷ s) h l = absurd (omega arith)
 registers-enough (suc k) zero [] h l = refl
 registers-enough (suc k) zero (b ∷ s) h l = absurd (omega arith)
 registers-enough (suc k) (suc m) s h l =
-    same-registers (length s) (register_line s) (λ r. registers_in k r) (λ r. registers_in m r) (register-eats s) (λ r j. registers-enough k m r (omega arith) (omega arith))
+    same-registers (length s) (register_line s) (λ r. registers_in k r) (λ r. registers_in m r) (register-eats s)
+    (λ r j. registers-enough k m r (omega arith) (omega arith))
 
 pub registers-turn : (s : Bytes) → registers_in (length s) s ≡ on_register (register_line s) (λ r. registers_in (length r) r)
 unfolding registers_in

@@ -14,10 +14,13 @@ use Rattle.text.specs.Words.{bytes, Read, stop, took, then_read, map_read, space
 use Rattle.text.specs.Lines.{word_only, jump, transfer, actions}
 use Rattle.scan.proofs.WordLaws.{map-apart, spell-map}
 use Rattle.lines.specs.Writing.{word_of, action_of, ActionWord}
+use Rattle.lines.specs.declared.actions.Opening.{Opening}
+use Rattle.lines.specs.declared.actions.Opening.TheVariants as opening
 
 -- ---- one word, whatever it stands for
 
-apart-then : {A B : Type 0} (f : A → Bytes → Read B) (a : A) (g : Read (Unit {0})) → then_read (then_read (map_read (λ _. a) g) apart) f ≡ then_read (then_read g apart) (λ _ r. f a r)
+apart-then : {A B : Type 0} (f : A → Bytes → Read B) (a : A) (g : Read (Unit {0}))
+    → then_read (then_read (map_read (λ _. a) g) apart) f ≡ then_read (then_read g apart) (λ _ r. f a r)
 unfolding then_read map_read
 apart-then f a (stop r) = refl
 apart-then f a (took _ r) = ap (λ x. then_read x f) (sym (map-apart (λ _. a) tt r)) ∙ kept (apart tt r)
@@ -27,12 +30,15 @@ apart-then f a (took _ r) = ap (λ x. then_read x f) (sym (map-apart (λ _. a) t
     kept (took _ u) = refl
 
 -- of several words this one decides, from a byte that is no space
-pub one-decides : {B : Type 0} (ws : List (Word (Bytes → Read B))) (w : Bytes) (f : Bytes → Read B) (s : Bytes) → spaces s ≡ s → spell ws s ≡ spell (word w f ∷ []) s
+pub one-decides : {B : Type 0} (ws : List (Word (Bytes → Read B))) (w : Bytes) (f : Bytes → Read B) (s : Bytes) → spaces s ≡ s
+    → spell ws s ≡ spell (word w f ∷ []) s
     → then_read (keyword ws s) (λ g r. g r) ≡ then_read (word_only w s) (λ _ r. f r)
 unfolding keyword word_only
 one-decides ws w f s h e =
-    ap (λ t. then_read (then_read (spell ws t) apart) (λ g r. g r)) h ∙ ap (λ x. then_read (then_read x apart) (λ g r. g r)) (e ∙ spell-map w f s)
-    ∙ apart-then (λ g r. g r) f (spell (word w tt ∷ []) s) ∙ ap (λ t. then_read (then_read (spell (word w tt ∷ []) t) apart) (λ _ r. f r)) (sym h)
+    ap (λ t. then_read (then_read (spell ws t) apart) (λ g r. g r)) h
+    ∙ ap (λ x. then_read (then_read x apart) (λ g r. g r)) (e ∙ spell-map w f s)
+    ∙ apart-then (λ g r. g r) f (spell (word w tt ∷ []) s)
+    ∙ ap (λ t. then_read (then_read (spell (word w tt ∷ []) t) apart) (λ _ r. f r)) (sym h)
 
 -- ---- by the first letter
 
@@ -41,11 +47,14 @@ module _ {A : Type 0} where
   unfolding spell
   same-following b ws vs s e = rw e
 
-  pub first-is : (b c : ℕ) (w : Bytes) (f : A) (ws : List (Word A)) (s : Bytes) → b ≡ c → following c ws ≡ [] → spell (word (c ∷ w) f ∷ ws) (b ∷ s) ≡ spell (word (c ∷ w) f ∷ []) (b ∷ s)
+  pub first-is : (b c : ℕ) (w : Bytes) (f : A) (ws : List (Word A)) (s : Bytes) → b ≡ c → following c ws ≡ []
+      → spell (word (c ∷ w) f ∷ ws) (b ∷ s) ≡ spell (word (c ∷ w) f ∷ []) (b ∷ s)
   unfolding following
-  first-is b c w f ws s e n = same-following b (word (c ∷ w) f ∷ ws) (word (c ∷ w) f ∷ []) s (rw (eq-eqb b c e) (ap (λ z. word w f ∷ z) (ap (λ z. following z ws) e ∙ n)))
+  first-is b c w f ws s e n = same-following b (word (c ∷ w) f ∷ ws) (word (c ∷ w) f ∷ []) s
+      (rw (eq-eqb b c e) (ap (λ z. word w f ∷ z) (ap (λ z. following z ws) e ∙ n)))
 
-  pub first-is-not : (b c : ℕ) (w : Bytes) (f : A) (ws : List (Word A)) (s : Bytes) → (b ≡ c → ⊥) → spell (word (c ∷ w) f ∷ ws) (b ∷ s) ≡ spell ws (b ∷ s)
+  pub first-is-not : (b c : ℕ) (w : Bytes) (f : A) (ws : List (Word A)) (s : Bytes) → (b ≡ c → ⊥)
+      → spell (word (c ∷ w) f ∷ ws) (b ∷ s) ≡ spell ws (b ∷ s)
   unfolding following
   first-is-not b c w f ws s n = same-following b (word (c ∷ w) f ∷ ws) ws s (rw (ne_eqb b c n))
 
@@ -89,7 +98,8 @@ unfolding spell following actions or_none whole or_whole
 spelt-skip [] n = refl
 spelt-skip (c ∷ u) n = rw (ne_eqb c 116 n)
 
-spelt-none : (b : ℕ) (t : Bytes) → (b ≡ 105 → ⊥) → (b ≡ 117 → ⊥) → (b ≡ 108 → ⊥) → (b ≡ 115 → ⊥) → spell actions (b ∷ t) ≡ spell (word (bytes "skip") skips ∷ []) (b ∷ t)
+spelt-none : (b : ℕ) (t : Bytes) → (b ≡ 105 → ⊥) → (b ≡ 117 → ⊥) → (b ≡ 108 → ⊥) → (b ≡ 115 → ⊥)
+    → spell actions (b ∷ t) ≡ spell (word (bytes "skip") skips ∷ []) (b ∷ t)
 unfolding following actions
 spelt-none b t i u l s =
     same-following b actions (word (bytes "skip") skips ∷ []) t (rw (ne_eqb b 115 s, ne_eqb b 105 i, ne_eqb b 108 l, ne_eqb b 117 u))
@@ -105,34 +115,30 @@ next-byte s q i = let e : q + 1 + i ≡ q + (i + 1) = omega arith in get_or-drop
 
 -- at a place in the text
 module _ (s : Bytes) (q : ℕ) (b : ℕ) (t : Bytes) (h : drop q s ≡ b ∷ t) (k : spaces (drop q s) ≡ drop q s) where
-  decides : (c : ℕ) → spell actions (b ∷ t) ≡ spell (word (word_of c) (action_of c) ∷ []) (b ∷ t) → ActionWord (drop q s) c
+  decides : (c : Opening) → spell actions (b ∷ t) ≡ spell (word (word_of c) (action_of c) ∷ []) (b ∷ t) → ActionWord (drop q s) c
   unfolding ActionWord
   decides c e = one-decides actions (word_of c) (action_of c) (drop q s) k (rw h e)
 
-  pub decides-if : b ≡ 105 → ActionWord (drop q s) 3
-  unfolding word_of action_of following actions
-  decides-if e = decides 3 (same-following b actions (word (bytes "if") jump ∷ []) t (rw e))
+  pub decides-if : b ≡ 105 → ActionWord (drop q s) opening.If
+  unfolding following actions
+  decides-if e = decides opening.If (same-following b actions (word (bytes "if") jump ∷ []) t (rw e))
 
-  pub decides-unlock : b ≡ 117 → ActionWord (drop q s) 6
-  unfolding word_of action_of following actions
-  decides-unlock e = decides 6 (same-following b actions (word (bytes "unlock") (λ s. map_read unlock (name (bytes "l") s)) ∷ []) t (rw e))
+  pub decides-unlock : b ≡ 117 → ActionWord (drop q s) opening.Unlock
+  unfolding following actions
+  decides-unlock e = decides opening.Unlock
+      (same-following b actions (word (bytes "unlock") (λ s. map_read unlock (name (bytes "l") s)) ∷ []) t (rw e))
 
-  pub decides-load : b ≡ 108 → get_or t 1 0 ≡ 97 → ActionWord (drop q s) 5
-  unfolding word_of action_of
-  decides-load e l = decides 5 (rw e (spelt-load t l))
+  pub decides-load : b ≡ 108 → get_or t 1 0 ≡ 97 → ActionWord (drop q s) opening.Load
+  decides-load e l = decides opening.Load (rw e (spelt-load t l))
 
-  pub decides-lock : b ≡ 108 → (get_or t 1 0 ≡ 97 → ⊥) → ActionWord (drop q s) 7
-  unfolding word_of action_of
-  decides-lock e l = decides 7 (rw e (spelt-lock t l))
+  pub decides-lock : b ≡ 108 → (get_or t 1 0 ≡ 97 → ⊥) → ActionWord (drop q s) opening.Lock
+  decides-lock e l = decides opening.Lock (rw e (spelt-lock t l))
 
-  pub decides-store : b ≡ 115 → get_or t 0 0 ≡ 116 → ActionWord (drop q s) 4
-  unfolding word_of action_of
-  decides-store e l = decides 4 (rw e (spelt-store t l))
+  pub decides-store : b ≡ 115 → get_or t 0 0 ≡ 116 → ActionWord (drop q s) opening.Store
+  decides-store e l = decides opening.Store (rw e (spelt-store t l))
 
-  pub decides-skip : b ≡ 115 → (get_or t 0 0 ≡ 116 → ⊥) → ActionWord (drop q s) 1
-  unfolding word_of action_of
-  decides-skip e l = decides 1 (rw e (spelt-skip t l))
+  pub decides-skip : b ≡ 115 → (get_or t 0 0 ≡ 116 → ⊥) → ActionWord (drop q s) opening.Skip
+  decides-skip e l = decides opening.Skip (rw e (spelt-skip t l))
 
-  pub decides-none : (b ≡ 105 → ⊥) → (b ≡ 117 → ⊥) → (b ≡ 108 → ⊥) → (b ≡ 115 → ⊥) → ActionWord (drop q s) 1
-  unfolding word_of action_of
-  decides-none i u l m = decides 1 (spelt-none b t i u l m)
+  pub decides-none : (b ≡ 105 → ⊥) → (b ≡ 117 → ⊥) → (b ≡ 108 → ⊥) → (b ≡ 115 → ⊥) → ActionWord (drop q s) opening.Skip
+  decides-none i u l m = decides opening.Skip (spelt-none b t i u l m)

@@ -3,7 +3,8 @@ use Rattle.std.specs.Prelude.{List, [], ◌∷◌, ℕ, zero, suc, length}
 use Rattle.rules.specs.Format.{Bytes}
 use Rattle.rules.specs.Interval.{Interval, interval}
 use Rattle.text.specs.Words.{bytes, Read, stop, took, signed}
-use Rattle.text.specs.Lines.{locks_line, var_line, thread_line, reg_line, statement_line, range, head_line, Due, locks_due, var_due, reg_due, statement_due, Started, starts}
+use Rattle.text.specs.Lines.{locks_line, var_line, thread_line, reg_line, statement_line, Started, starts}
+use Rattle.text.specs.Lines.{range, head_line, Due, locks_due, var_due, reg_due, statement_due}
 use Rattle.text.specs.Convert.{Piece, field_of, line_fits}
 
 -- a `reg` line, to its end

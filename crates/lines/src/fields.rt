@@ -2,12 +2,10 @@
 ghost use Rattle.std.specs.Prelude.{◌≡◌, [], ◌∷◌, ◌≤◌, ◌<◌, ltb, set, if◌then◌else◌};
 ghost use Rattle.std.proofs.lemmas.List.Edits.{sets};
 ghost use Rattle.rules.specs.Encoding.{two};
-ghost use Rattle.lines.specs.Reading.{number_in};
 ghost use Rattle.lines.specs.Writing.{range_bytes, field_of_one, front_bytes, put_pair};
 
-use crate::after::number_in;
 use crate::ranges::Pair;
-use scan::{Step, TOO_BIG, low_byte, put, put_four, put_two};
+use scan::{put, put_four, put_two};
 
 // A tag and its length, of two bytes.
 pub fn put_head(out: &mut [u8], at: usize, tag: u8, size: u64)
@@ -58,28 +56,20 @@ pub fn put_none(out: &mut [u8], at: usize)
 
 // ---- of what was read, where it fits
 
-pub(crate) fn is_small(x: Step) -> bool
-    ensures { result ≡ ltb (number_in x) 256 }
+pub(crate) fn put_small(out: &mut [u8], at: usize, v: u64)
+    ensures { out.new ≡ (if ltb v 256 then set out.old at v else out.old) }
 {
-    number_in(x) < 256
-}
-
-pub(crate) fn put_small(out: &mut [u8], at: usize, x: Step)
-    ensures { out.new ≡ (if ltb (number_in x) 256 then set out.old at (number_in x) else out.old) }
-{
-    let v = number_in(x);
-    if v < 256 {
-        put(out, at, low_byte(v));
+    if let Ok(b) = u8::try_from(v) {
+        put(out, at, b);
     }
 }
 
-pub(crate) fn put_small_field(out: &mut [u8], at: usize, tag: u8, x: Step)
+pub(crate) fn put_small_field(out: &mut [u8], at: usize, tag: u8, v: u64)
     requires { at ≤ 65536 }
-    ensures { out.new ≡ (if ltb (number_in x) 256 then sets out.old at (field_of_one tag (number_in x)) else out.old) }
+    ensures { out.new ≡ (if ltb v 256 then sets out.old at (field_of_one tag v) else out.old) }
 {
-    let v = number_in(x);
-    if v < 256 {
-        put_one(out, at, tag, low_byte(v));
+    if let Ok(b) = u8::try_from(v) {
+        put_one(out, at, tag, b);
     }
 }
 
@@ -87,14 +77,7 @@ pub(crate) fn put_pair(out: &mut [u8], at: usize, tag: u8, x: Pair)
     requires { at ≤ 65536 }
     ensures { out.new ≡ put_pair out.old at tag x }
 {
-    match x {
-        Pair::Stop(_) => {}
-        Pair::Took(a, b, _) => {
-            if a < TOO_BIG {
-                if b < TOO_BIG {
-                    put_range(out, at, tag, a, b);
-                }
-            }
-        }
+    if x.fits() {
+        put_range(out, at, tag, x.low, x.high);
     }
 }

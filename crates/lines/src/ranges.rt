@@ -1,57 +1,83 @@
-// Two ends, as `2..3`.
-ghost use Rattle.std.specs.Prelude.{◌≡◌, ◌≤◌, length};
-ghost use Rattle.text.specs.Words.{then_read, line_end};
-ghost use Rattle.text.specs.Lines.{range};
-ghost use Rattle.scan.specs.Reading.{Onward, read_of, unit, place_of};
-ghost use Rattle.lines.specs.Reading.{pair, pair_of, pair_place, paired_of, one_end};
+// One end, or two, as `2..3`; and the lines of a word and such numbers.
+ghost use Rattle.std.specs.Prelude.{◌≡◌, ◌&&◌, ◌≤◌, ◌<◌, length, drop, ltb};
+ghost use Rattle.text.specs.Words.{map_read, number};
+ghost use Rattle.text.specs.Lines.{range, head_line};
+ghost use Rattle.scan.specs.Reading.{Onward, OnwardStep, read_of, same, capped};
+ghost use Rattle.lines.specs.Reading.{pair, pair_of, pair_place, one_end};
+ghost use Rattle.lines.specs.Writing.{pair_fits, times_small};
 
-use crate::after::{number_in, then_end, then_symbol};
-use scan::{Step, line_end_at};
+use scan::{TOO_BIG, line_end_at, number_at, symbol_at, value_at, word_only_at};
 
-// Two numbers that stand for what was read, and the place behind them; or the place of the first byte that cannot go on.
+// Two numbers that stand for what was read, and the place behind them.
 #[derive(Clone, Copy)]
-pub enum Pair {
-    Took(u64, u64, usize),
-    Stop(usize),
+pub struct Pair {
+    pub low: u64,
+    pub high: u64,
+    pub place: usize,
 }
 
-// The first end, and the second where it was read.
-fn paired(a: Step, b: Step) -> Pair
-    ensures { result ≡ paired_of a b }
-{
-    match b {
-        Step::Stop(q) => Pair::Stop(q),
-        Step::Took(v, q) => {
-            let n = number_in(a);
-            Pair::Took(n, v, q)
-        }
+impl Pair {
+    // Whether both fit four bytes.
+    pub(crate) fn fits(self) -> bool
+        ensures { result ≡ pair_fits self }
+    {
+        self.low < TOO_BIG && self.high < TOO_BIG
+    }
+
+    // Whether both fit two bytes.
+    pub(crate) fn is_small(self) -> bool
+        ensures { result ≡ times_small self }
+    {
+        self.low < 65536 && self.high < 65536
     }
 }
 
-pub fn then_range(s: &[u8], x: Step, signed: bool) -> Pair
-    requires { place_of x ≤ length s.now }
-    ensures result_value { pair_of pair s.now result ≡ then_read (read_of unit s.now x) (λ _ t. range (one_end signed) pair t) }
-    ensures onward { Onward s.now (place_of x) (pair_place result) }
+// One number: with a minus, where the sign is read.
+fn end_at(s: &[u8], p: usize, signed: bool) -> Result<(u64, usize), usize>
+    requires { p ≤ length s.now }
+    ensures result_value { read_of same s.now result ≡ one_end signed (drop p s.now) }
+    ensures onward { OnwardStep s.now p result }
 {
-    let a = then_end(s, x, signed);
-    let d = then_symbol(s, a, b"..");
-    let b = then_end(s, d, signed);
-    paired(a, b)
+    if signed {
+        value_at(s, p)
+    } else {
+        number_at(s, p)
+    }
 }
 
-pub fn range_line_end(s: &[u8], x: Pair) -> Pair
-    requires { pair_place x ≤ length s.now }
-    ensures result_value { pair_of pair s.now result ≡ then_read (pair_of pair s.now x) line_end }
-    ensures onward { Onward s.now (pair_place x) (pair_place result) }
+#[tactic(auto, unfolding(crate::proofs::Opened::readings))]
+pub fn range_at(s: &[u8], p: usize, signed: bool) -> Result<Pair, usize>
+    requires { p ≤ length s.now }
+    ensures result_value { pair_of pair s.now result ≡ range (one_end signed) pair (drop p s.now) }
+    ensures onward { Onward s.now p (pair_place result) }
 {
-    match x {
-        Pair::Stop(q) => Pair::Stop(q),
-        Pair::Took(a, b, q) => {
-            let e = line_end_at(s, b, q);
-            match e {
-                Step::Stop(t) => Pair::Stop(t),
-                Step::Took(_, t) => Pair::Took(a, b, t),
-            }
-        }
-    }
+    let (low, q) = end_at(s, p, signed)?;
+    let (_, r) = symbol_at(s, q, b"..")?;
+    let (high, place) = end_at(s, r, signed)?;
+    Ok(Pair { low, high, place })
+}
+
+// A line of a word and a number.
+#[tactic(auto, unfolding(crate::proofs::Opened::readings))]
+pub fn number_line(s: &[u8], p: usize, word: &[u8]) -> Result<(u64, usize), usize>
+    requires { (p ≤ length s.now) × (0 < length word.now) }
+    ensures result_value { read_of same s.now result ≡ map_read capped (head_line word.now number (drop p s.now)) }
+    ensures onward { OnwardStep s.now p result }
+{
+    let (_, q) = word_only_at(s, p, word)?;
+    let (n, r) = number_at(s, q)?;
+    line_end_at(s, n, r)
+}
+
+// A line of a word and two numbers.
+#[tactic(auto, unfolding(crate::proofs::Opened::readings))]
+pub fn range_line(s: &[u8], p: usize, word: &[u8], signed: bool) -> Result<Pair, usize>
+    requires { (p ≤ length s.now) × (0 < length word.now) }
+    ensures result_value { pair_of pair s.now result ≡ head_line word.now (range (one_end signed) pair) (drop p s.now) }
+    ensures onward { Onward s.now p (pair_place result) }
+{
+    let (_, q) = word_only_at(s, p, word)?;
+    let x = range_at(s, q, signed)?;
+    let (_, place) = line_end_at(s, x.high, x.place)?;
+    Ok(Pair { place, ..x })
 }

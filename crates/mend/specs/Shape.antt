@@ -1,22 +1,31 @@
 -- What the code writes and gives back, in terms of the definition.
-use Rattle.std.specs.Prelude.{◌≡◌, Bool, true, false, List, [], ◌∷◌, ℕ, ◌+◌, ◌-◌, ltb, length, replicate, if◌then◌else◌}
-use Rattle.std.proofs.Math.Option.{Option, none, some}
+use Rattle.std.specs.Prelude.{◌≡◌, Bool, List, [], ◌∷◌, ℕ, ◌+◌, ◌-◌, ltb, length, if◌then◌else◌, Option, Some, None}
+use Rattle.std.proofs.Math.Option as O
+use Rattle.std.specs.declared.ops.ControlFlow.{ControlFlow}
+use Rattle.std.specs.declared.ops.ControlFlow.TheVariants.{Continue, Break}
 use Rattle.rules.specs.Base.{at_front}
-use Rattle.rules.specs.Refusal.{Refusal, number}
-use Rattle.rules.specs.Program.{Program}
-use Rattle.rules.specs.Format.{Bytes, bad, got, read_sheet}
+use Rattle.rules.specs.Format.{Bytes}
 use Rattle.rules.specs.Sheets.{halt}
 use Rattle.writing.specs.Out.{Writes}
-use Rattle.mended.specs.Mend.{Mended, mended, mend_sheet, numbers_of, Mending}
+use Rattle.mended.specs.Mend.{Mended, numbers_of, Mending}
 use Rattle.mend.specs.declared.writer.Ends.{Ends}
-use Rattle.mend.specs.declared.place.Sought.{Sought}
-use Rattle.mend.specs.declared.place.Sought.TheVariants.{Found, Further}
-use Rattle.mend.specs.declared.verdict.Verdict.{Verdict}
+use Rattle.mend.specs.declared.writer.Kind.{Kind}
+use Rattle.mend.specs.declared.writer.Kind.TheVariants.{Exchanged, HaltAdded}
 use Rattle.mend.specs.declared.outputs.Mending as D
 
--- the statement before a place, where it wants a halt behind it
-abbrev pub last_of : Bool → ℕ → Option ℕ
-last_of wanted p = if wanted then some p else none
+-- "kind (1 exchanged, 2 halt added)"
+abbrev pub kind_number : Kind → ℕ
+kind_number Exchanged = 1
+kind_number HaltAdded = 2
+
+-- the statement before a place, where it wants a halt behind it, as the rule has it
+abbrev pub last_of : Option ℕ → O.Option ℕ
+last_of (Some p) = O.some p
+last_of None = O.none
+
+-- and where it gets one: its thread closes there
+abbrev pub added_to : Bool → Option ℕ → Option ℕ
+added_to closes o = if closes then o else None
 
 -- a part of the mended sheet is written behind what both outputs have
 pub record Puts (m : Mended) (out : Bytes) (list : List ℕ) (ends : Ends) (out' : Bytes) (list' : List ℕ) (ends' : Ends) : Type 0 where
@@ -30,9 +39,9 @@ no_ends = record { bytes = 0; numbers = 0 }
 -- ---- a place counted in the original
 
 -- past the halt that was added at a place behind the statement `last`, or past nothing
-unfoldable pub past_halt : Bool → ℕ → ℕ → ℕ → Sought
-past_halt false at last p = Further p
-past_halt true at last p = if ltb p at then Found p else if ltb p (at + length halt) then Found last else Further (p - length halt)
+unfoldable pub past_halt : Option ℕ → ℕ → ℕ → ControlFlow ℕ ℕ
+past_halt None at p = Continue p
+past_halt (Some last) at p = if ltb p at then Break p else if ltb p (at + length halt) then Break last else Continue (p - length halt)
 
 -- ---- what the call gives
 
@@ -40,14 +49,9 @@ past_halt true at last p = if ltb p at then Found p else if ltb p (at + length h
 abbrev pub mending_of : D.Mending → Bytes → List ℕ → Mending
 mending_of r sheet list = record { refusal = r.refusal; place = r.place; written = r.written; listed = r.listed; sheet = sheet; list = list }
 
--- a refusal by its number
-abbrev pub refused_by : ℕ → ℕ → ℕ → ℕ → Mending
-refused_by n k r p = record { refusal = r; place = p; written = 0; listed = 0; sheet = replicate n 0; list = replicate k 0 }
-
--- what is known once the reader has read the mended sheet and its length is looked at
-pub data Judged (s : Bytes) (v : Verdict) : Type 0 where
-  refused : (r : Refusal) (p : ℕ) → mend_sheet s ≡ bad r p → v ≡ record { refusal = number r; place = p } → Judged s v
-  good : (g : Program) (e : ℕ) → read_sheet (mended s).bytes ≡ got g e → v ≡ record { refusal = 0; place = 0 } → Judged s v
+-- where nothing is refused, so far as both outputs were written
+abbrev pub mended_by : Ends → Bytes → List ℕ → Mending
+mended_by e sheet list = record { refusal = 0; place = 0; written = e.bytes; listed = e.numbers; sheet = sheet; list = list }
 
 -- ---- what the exported call gives
 

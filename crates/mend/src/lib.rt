@@ -8,71 +8,64 @@ mod place; // a place counted in the original
 mod verdict; // what the reader says of the mended sheet
 mod outputs; // both outputs at the end
 
-ghost use Rattle.std.specs.Prelude.{◌≡◌, ◌*◌, ◌≤◌, length};
-ghost use Rattle.rules.specs.Base.{at_front};
+ghost use Rattle.std.specs.Prelude.{◌≡◌, ◌*◌, ◌≤◌, length, IfOk, IfErr};
 ghost use Rattle.rules.specs.Constants.{longest_sheet};
 ghost use Rattle.rules.specs.Demands.{Unchanged};
+ghost use Rattle.refusal.specs.Shape.{rule_of};
 ghost use Rattle.mended.specs.Mend as Rule;
 ghost use Rattle.mended.specs.Claims.{MendsWell};
-ghost use Rattle.mend.specs.Shape.{mending_of, four, FourIn, Leaves};
+ghost use Rattle.mend.specs.Shape.{mending_of, mended_by, FourIn, Leaves};
 
-use crate::outputs::{fill_bytes, put_zero_numbers, refuse};
+use crate::outputs::{fill_bytes, refuse};
 use crate::verdict::{LONGEST_SHEET, MOST_MENDED, judge};
-use crate::writer::put_fields;
+use crate::writer::{Ends, put_fields};
+use field::need;
 pub use outputs::Mending;
-use refusal::{Refusal, number_of};
+use refusal::{Fault, Refusal};
+use writing::{put_copies, put_front};
 
-// The mended sheet goes through the work buffer, which has room for it, since it may be refused before it is known to fit.
-fn mend_through(sheet: &[u8], work: &mut [u8], mended: &mut [u8], changes: &mut [u32]) -> Mending
-    requires { (length sheet.now ≤ longest_sheet) × (2 * length sheet.now ≤ length work.old) }
-    ensures { mending_of result mended.new changes.new ≡ Rule.mend sheet.now (length mended.old) (length changes.old) }
+// Writes both outputs, where nothing is refused. The mended sheet goes through the work buffer, which has room for it, since it may be
+// refused before it is known to fit.
+#[tactic(auto, using(crate::proofs::Outcome::through_laws))]
+fn mend_through(
+    sheet: &[u8],
+    work: &mut [u8],
+    mended: &mut [u8],
+    changes: &mut [u32],
+) -> Result<Ends, Fault>
+    requires { 2 * longest_sheet ≤ length work.old }
+    ensures ok { IfOk result (λ e. mended_by e mended.new changes.new ≡ Rule.mend sheet.now (length mended.old) (length changes.old)) }
+    ensures err { IfErr result (λ f. Rule.refused_with (length mended.old) (length changes.old) (rule_of f.refusal) f.place ≡ Rule.mend sheet.now (length mended.old) (length changes.old)) }
 {
+    need(sheet.len() <= LONGEST_SHEET, Refusal::TooLong, 0)?;
     let ends = put_fields(sheet, work, changes);
-    let v = judge(sheet, &work[..ends.bytes]);
-    if v.refusal != 0 {
-        return refuse(mended, changes, v.refusal, v.place);
-    }
-    if mended.len() < ends.bytes {
-        return refuse(mended, changes, number_of(Refusal::OutputFull), 0);
-    }
-    if changes.len() < ends.numbers {
-        return refuse(mended, changes, number_of(Refusal::OutputFull), 0);
-    }
+    judge(sheet, &work[..ends.bytes])?;
+    let fits = ends.bytes <= mended.len() && ends.numbers <= changes.len();
+    need(fits, Refusal::OutputFull, 0)?;
     fill_bytes(mended, &work[..ends.bytes]);
-    put_zero_numbers(changes, ends.numbers);
-    Mending {
-        refusal: 0,
-        place: 0,
-        written: ends.bytes,
-        listed: ends.numbers,
-    }
+    put_copies(changes, ends.numbers, 0);
+    Ok(ends)
 }
 
 // Mends a sheet into the first buffer, and lists its changes in the second: for each its kind (1 exchanged, 2 halt added) and the place of
-// its field in the sheet, of an added halt that of the thread's last statement. Both are zero behind what is written, and all zeros where it is refused.
+// its field in the sheet, of an added halt that of the thread's last statement. Both are zero behind what is written, and all zeros where
+// it is refused.
+#[tactic(auto, using(crate::proofs::Outcome::call_laws))]
 pub fn mend_sheet(sheet: &[u8], mended: &mut [u8], changes: &mut [u32]) -> Mending
     ensures changes_after { mending_of result mended.new changes.new ≡ Rule.mend sheet.now (length mended.old) (length changes.old) }
     ensures mends_well { MendsWell sheet.now (length mended.old) (length changes.old) }
     ensures unchanged { Unchanged sheet.now sheet.now }
 {
-    if LONGEST_SHEET < sheet.len() {
-        return refuse(mended, changes, number_of(Refusal::TooLong), 0);
-    }
     let mut work = [0u8; MOST_MENDED];
-    mend_through(sheet, &mut work, mended, changes)
-}
-
-// The answer's four numbers at the front of an array that has room for them.
-fn put_answer(m: Mending, answer: &mut [u64])
-    ensures { answer.new ≡ at_front (four m.refusal m.place m.written m.listed) answer.old }
-{
-    if answer.len() < 4 {
-        return;
+    match mend_through(sheet, &mut work, mended, changes) {
+        Ok(ends) => Mending {
+            refusal: 0,
+            place: 0,
+            written: ends.bytes,
+            listed: ends.numbers,
+        },
+        Err(fault) => refuse(mended, changes, fault),
     }
-    answer[0] = m.refusal as u64;
-    answer[1] = m.place as u64;
-    answer[2] = m.written as u64;
-    answer[3] = m.listed as u64;
 }
 
 // The same for callers in C and in Rust: the answer's four numbers (refusal, place, bytes written, numbers listed) go to the front of a
@@ -90,6 +83,14 @@ pub extern "C" fn zumbeiry_mend(
     ensures unchanged { Unchanged sheet.now sheet.now }
 {
     let m = mend_sheet(sheet, mended, changes);
-    put_answer(m, answer);
+    put_front(
+        answer,
+        [
+            u64::from(m.refusal),
+            m.place as u64,
+            m.written as u64,
+            m.listed as u64,
+        ],
+    );
     m.refusal
 }

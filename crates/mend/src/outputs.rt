@@ -1,12 +1,13 @@
 // Both outputs at the end: the mended sheet and its changes with zeros behind them, or zeros only.
-ghost use Rattle.std.specs.Prelude.{◌≡◌, ◌-◌, ◌≤◌, length, replicate};
-ghost use Rattle.writing.specs.Out.{Writes};
-ghost use Rattle.mended.specs.Mend.{filled};
-ghost use Rattle.mend.specs.Shape.{mending_of, refused_by};
+ghost use Rattle.std.specs.Prelude.{◌≡◌, ◌≤◌, length};
+ghost use Rattle.refusal.specs.Shape.{rule_of};
+ghost use Rattle.mended.specs.Mend.{filled, refused_with};
+ghost use Rattle.mend.specs.Shape.{mending_of};
 
-use writing::{put_bytes, put_zeros};
+use refusal::Fault;
 
-// Refusal 0: so many bytes and so many numbers, two a change, were written. Another: the place in the sheet, and zeros.
+// What the call gives, as C gets it. Refusal 0: so many bytes and so many numbers, two a change, were written. Another: the place in the
+// sheet, and zeros.
 #[derive(Clone, Copy)]
 pub struct Mending {
     pub refusal: u32,
@@ -15,35 +16,23 @@ pub struct Mending {
     pub listed: usize,
 }
 
-// Zeros up to the list's end.
-pub(crate) fn put_zero_numbers(list: &mut [u32], from: usize) -> usize
-    ensures { Writes (replicate (length list.old - from) 0) list.old from list.new result }
-{
-    let mut at = from;
-    while at < list.len() {
-        list[at] = 0;
-        at += 1;
-    }
-    at
-}
-
 // Bytes that fit, and zeros behind them.
 pub(crate) fn fill_bytes(out: &mut [u8], bytes: &[u8])
     requires { length bytes.now ≤ length out.old }
     ensures { out.new ≡ filled (length out.old) bytes.now }
 {
-    let end = put_bytes(out, 0, bytes);
-    put_zeros(out, end);
+    out[..bytes.len()].copy_from_slice(bytes);
+    out[bytes.len()..].fill(0);
 }
 
-pub(crate) fn refuse(mended: &mut [u8], changes: &mut [u32], refusal: u32, place: usize) -> Mending
-    ensures { mending_of result mended.new changes.new ≡ refused_by (length mended.old) (length changes.old) refusal place }
+pub(crate) fn refuse(mended: &mut [u8], changes: &mut [u32], fault: Fault) -> Mending
+    ensures { mending_of result mended.new changes.new ≡ refused_with (length mended.old) (length changes.old) (rule_of fault.refusal) fault.place }
 {
-    put_zeros(mended, 0);
-    put_zero_numbers(changes, 0);
+    mended.fill(0);
+    changes.fill(0);
     Mending {
-        refusal,
-        place,
+        refusal: u32::from(fault.refusal),
+        place: fault.place,
         written: 0,
         listed: 0,
     }

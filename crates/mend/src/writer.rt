@@ -1,19 +1,14 @@
 // The walk over the fields of a sheet, which writes the mended sheet and the list of its changes. What does not fit is not written,
 // as in `writing`.
-ghost use Rattle.std.specs.Prelude.{[], ◌∷◌, ◌+◌, ◌≤◌, ◌<◌, ◌^◌, length};
+ghost use Rattle.std.specs.Prelude.{◌≡◌, [], ◌∷◌, ◌+◌, ◌*◌, ◌≤◌, ◌<◌, ◌^◌, length, take, IfSome};
 ghost use Rattle.rules.specs.Constants.{longest_sheet};
 ghost use Rattle.writing.specs.Out.{Writes};
 ghost use Rattle.mended.specs.Mend as Rule;
-ghost use Rattle.mend.specs.Shape.{last_of, no_ends, Puts};
+ghost use Rattle.mend.specs.Shape.{kind_number, last_of, no_ends, Puts};
 
-use crate::fields::{behind, end_size, is_added, is_not_halt, is_reversed, low_end};
+use crate::fields::{behind, end_size, halt_added, is_reversed, low_end, open_after};
 use field::whole_field_at;
-use writing::put_bytes;
-
-// The kinds of change.
-const EXCHANGED: u32 = 1;
-
-const HALT_ADDED: u32 = 2;
+use writing::{put_bytes, put_element};
 
 // The bytes of a halt: tag 6, length 5, times 0 and 0, code 0.
 const HALT: [u8; 8] = [6, 0, 5, 0, 0, 0, 0, 0];
@@ -27,23 +22,31 @@ pub(crate) struct Ends {
 
 // ---- the list
 
-fn put_number(list: &mut [u32], at: usize, n: u32) -> usize
-    ensures { Writes (n ∷ []) list.old at list.new result }
-{
-    if at < list.len() {
-        list[at] = n;
-        return at + 1;
+// What was changed at a field.
+#[derive(Clone, Copy)]
+enum Kind {
+    Exchanged,
+    HaltAdded,
+}
+
+impl From<Kind> for u32 {
+    ghost from_gives = { λ k n. n ≡ kind_number k };
+
+    fn from(kind: Kind) -> u32 {
+        match kind {
+            Kind::Exchanged => 1,
+            Kind::HaltAdded => 2,
+        }
     }
-    list.len() + 1
 }
 
 // A change: its kind, and the place of its field.
-fn put_change(list: &mut [u32], at: usize, kind: u32, place: usize) -> usize
+fn put_change(list: &mut [u32], at: usize, kind: Kind, place: usize) -> usize
     requires { place < 2 ^ 32 }
-    ensures { Writes (kind ∷ place ∷ []) list.old at list.new result }
+    ensures { Writes (kind_number kind ∷ place ∷ []) list.old at list.new result }
 {
-    let second = put_number(list, at, kind);
-    put_number(list, second, place as u32)
+    let second = put_element(list, at, u32::from(kind));
+    put_element(list, second, place as u32)
 }
 
 // ---- a field
@@ -75,22 +78,15 @@ fn put_field(s: &[u8], at: usize, out: &mut [u8], list: &mut [u32], ends: Ends) 
     let end = behind(s, at);
     if is_reversed(s, at) {
         let tag = s[at];
-        let bytes = put_exchanged(
-            s,
-            at,
-            end,
-            at + low_end(tag),
-            end_size(tag),
-            out,
-            ends.bytes,
-        );
-        let numbers = put_change(list, ends.numbers, EXCHANGED, at);
-        return Ends { bytes, numbers };
+        let low = at + low_end(tag);
+        return Ends {
+            bytes: put_exchanged(s, at, end, low, end_size(tag), out, ends.bytes),
+            numbers: put_change(list, ends.numbers, Kind::Exchanged, at),
+        };
     }
-    let bytes = put_bytes(out, ends.bytes, &s[at..end]);
     Ends {
-        bytes,
-        numbers: ends.numbers,
+        bytes: put_bytes(out, ends.bytes, &s[at..end]),
+        ..ends
     }
 }
 
@@ -100,49 +96,48 @@ fn put_field(s: &[u8], at: usize, out: &mut [u8], list: &mut [u32], ends: Ends) 
 fn put_halt(
     s: &[u8],
     at: usize,
-    wanted: bool,
-    last: usize,
+    last: Option<usize>,
     out: &mut [u8],
     list: &mut [u32],
     ends: Ends,
 ) -> Ends
-    requires { last < 2 ^ 32 }
-    ensures { Puts (Rule.added (Rule.closes_at s.now at) (last_of wanted last)) out.old list.old ends out.new list.new result }
+    requires { IfSome last (λ p. p < 2 ^ 32) }
+    ensures { Puts (Rule.added (Rule.closes_at s.now at) (last_of last)) out.old list.old ends out.new list.new result }
 {
-    if is_added(s, at, wanted) {
-        let bytes = put_bytes(out, ends.bytes, &HALT);
-        let numbers = put_change(list, ends.numbers, HALT_ADDED, last);
-        return Ends { bytes, numbers };
+    let Some(place) = halt_added(s, at, last) else {
+        return ends;
+    };
+    Ends {
+        bytes: put_bytes(out, ends.bytes, &HALT),
+        numbers: put_change(list, ends.numbers, Kind::HaltAdded, place),
     }
-    ends
 }
 
 // ---- the sheet
 
-// Writes the mended sheet and the list of its changes.
+// Writes the mended sheet and the list of its changes. Where there is room for the longest one, the mended sheet stands at the front.
+#[tactic(auto, using(crate::proofs::writer::Laws::walk_laws))]
 pub(crate) fn put_fields(s: &[u8], out: &mut [u8], list: &mut [u32]) -> Ends
     requires { length s.now ≤ longest_sheet }
-    ensures { Puts (Rule.mended s.now) out.old list.old no_ends out.new list.new result }
+    ensures puts { Puts (Rule.mended s.now) out.old list.old no_ends out.new list.new result }
+    ensures front { 2 * longest_sheet ≤ length out.old → (result.bytes ≤ length out.new) × (take result.bytes out.new ≡ (Rule.mended s.now).bytes) }
 {
     let mut ends = Ends {
         bytes: 0,
         numbers: 0,
     };
-    let mut wanted = false;
-    let mut last: usize = 0;
-    let mut at: usize = 0;
+    let mut last = None;
+    let mut at = 0;
     loop {
-        ends = put_halt(s, at, wanted, last, out, list, ends);
+        ends = put_halt(s, at, last, out, list, ends);
         if !whole_field_at(s, at) {
-            let bytes = put_bytes(out, ends.bytes, &s[at..]);
             return Ends {
-                bytes,
-                numbers: ends.numbers,
+                bytes: put_bytes(out, ends.bytes, &s[at..]),
+                ..ends
             };
         }
         ends = put_field(s, at, out, list, ends);
-        wanted = is_not_halt(s, at);
-        last = at;
+        last = open_after(s, at);
         at = behind(s, at);
     }
 }

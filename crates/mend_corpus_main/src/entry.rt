@@ -1,7 +1,7 @@
 // One entry: what stands in its front, the call, and what came of it.
 ghost use Rattle.std.specs.Prelude.{◌+◌, ◌≤◌};
 
-use corpus::{both, four, same_bytes, two, wide};
+use corpus::{four, same_bytes, two};
 use mend::{Mending, mend_sheet};
 
 // Bytes of a front.
@@ -10,11 +10,33 @@ pub(crate) const FRONT: usize = 24;
 // What both buffers hold before each call.
 const FILLED: u8 = 7;
 
+// What is planted in an entry: one of its numbers is wrong, one byte of the mended sheet, or one number of the list.
+#[derive(Clone, Copy, PartialEq, Eq)]
+pub(crate) enum Planted {
+    Nothing,
+    Number,
+    Sheet,
+    List,
+    Unknown,
+}
+
+impl From<u8> for Planted {
+    fn from(code: u8) -> Planted {
+        match code {
+            0 => Planted::Nothing,
+            1 => Planted::Number,
+            2 => Planted::Sheet,
+            3 => Planted::List,
+            _ => Planted::Unknown,
+        }
+    }
+}
+
 // What is planted, the lengths of the sheet and of what is stated of both outputs, the bytes that are lent for the mended sheet, and the
 // four numbers that are due.
 #[derive(Clone, Copy)]
 pub(crate) struct Front {
-    pub(crate) planted: u64,
+    pub(crate) planted: Planted,
     pub(crate) sheet: usize,
     pub(crate) stated: usize,
     pub(crate) room: usize,
@@ -24,10 +46,9 @@ pub(crate) struct Front {
     listed: u64,
 }
 
-// Whether the entry was read, its four numbers are the stated ones, and so are the mended sheet and the list, to the ends of both buffers.
+// Whether the four numbers are the stated ones, and so are the mended sheet and the list, to the ends of both buffers.
 #[derive(Clone, Copy)]
 pub(crate) struct Verdict {
-    pub(crate) read: bool,
     pub(crate) numbers: bool,
     pub(crate) sheet: bool,
     pub(crate) list: bool,
@@ -42,73 +63,36 @@ fn four_at(b: &[u8; FRONT], at: usize) -> u64
 
 pub(crate) fn front_of(b: &[u8; FRONT]) -> Front {
     Front {
-        planted: wide(b[0]),
+        planted: Planted::from(b[0]),
         sheet: four_at(b, 1) as usize,
         stated: four_at(b, 5) as usize,
         room: four_at(b, 9) as usize,
-        refusal: wide(b[13]),
+        refusal: u64::from(b[13]),
         place: two(b[14], b[15]),
         written: four_at(b, 16),
         listed: four_at(b, 20),
     }
 }
 
-pub(crate) fn not_read() -> Verdict {
-    Verdict {
-        read: false,
-        numbers: false,
-        sheet: false,
-        list: false,
-    }
-}
-
-fn fill_bytes(buffer: &mut [u8]) {
-    let mut i: usize = 0;
-    while i < buffer.len() {
-        buffer[i] = FILLED;
-        i += 1;
-    }
-}
-
-fn fill_numbers(buffer: &mut [u32]) {
-    let mut i: usize = 0;
-    while i < buffer.len() {
-        buffer[i] = FILLED as u32;
-        i += 1;
-    }
-}
-
-// Whether a number is the one in the four bytes stated of it, the i-th four; where these end before, it is not.
-fn same_number(n: u32, stated: &[u8], i: usize) -> bool {
-    if stated.len() < 4 {
-        return false;
-    }
-    if (stated.len() - 4) / 4 < i {
-        return false;
-    }
-    let at = 4 * i;
-    n as u64 == four(stated[at], stated[at + 1], stated[at + 2], stated[at + 3])
-}
-
+// Whether each number is the one in the four bytes that are stated of it; where these end before, it is not.
 fn same_list(list: &[u32], stated: &[u8]) -> bool {
-    let mut i: usize = 0;
-    while i < list.len() {
-        if !same_number(list[i], stated, i) {
-            return false;
-        }
-        i += 1;
-    }
-    true
+    let (fours, _) = stated.as_chunks::<4>();
+    list.len() <= fours.len()
+        && list
+            .iter()
+            .zip(fours)
+            .all(|(n, bytes)| *n == u32::from_be_bytes(*bytes))
 }
 
 fn same_answer(m: Mending, f: Front) -> bool {
-    let refusal = both(m.refusal as u64 == f.refusal, m.place as u64 == f.place);
-    let lengths = both(m.written as u64 == f.written, m.listed as u64 == f.listed);
-    both(refusal, lengths)
+    u64::from(m.refusal) == f.refusal
+        && m.place as u64 == f.place
+        && m.written as u64 == f.written
+        && m.listed as u64 == f.listed
 }
 
 // The call, with both buffers filled before it.
-pub(crate) fn compare(
+fn compare(
     f: Front,
     sheet: &[u8],
     stated: &[u8],
@@ -116,13 +100,26 @@ pub(crate) fn compare(
     mended: &mut [u8],
     changes: &mut [u32],
 ) -> Verdict {
-    fill_bytes(mended);
-    fill_numbers(changes);
+    mended.fill(FILLED);
+    changes.fill(u32::from(FILLED));
     let m = mend_sheet(sheet, mended, changes);
     Verdict {
-        read: true,
         numbers: same_answer(m, f),
         sheet: same_bytes(mended, stated),
         list: same_list(changes, numbers),
     }
+}
+
+// The same with the fronts of both buffers; none where they have too little room, or less is stated of them.
+pub(crate) fn lend(
+    f: Front,
+    sheet: &[u8],
+    stated: &[u8],
+    mended: &mut [u8],
+    changes: &mut [u32],
+) -> Option<Verdict> {
+    let (bytes, numbers) = stated.split_at_checked(f.room)?;
+    let lent = mended.get_mut(..f.room)?;
+    let listed = changes.get_mut(..numbers.len() / 4)?;
+    Some(compare(f, sheet, bytes, numbers, lent, listed))
 }

@@ -8,9 +8,10 @@
 
 mod entry;
 
-use crate::entry::{FRONT, Front, Verdict, compare, front_of, not_read};
-use corpus::{both, counted, four, put, read_front};
+use crate::entry::{FRONT, Planted, Verdict, front_of, lend};
+use corpus::{counted, over_entries, put, read_front};
 use files::read_full;
+use std::io::Read;
 
 // Bytes of a sheet at most, and of all that is stated of both outputs.
 const ROOM: usize = 20000;
@@ -20,16 +21,9 @@ const STATED: usize = 28000;
 // Numbers that are lent at most.
 const NUMBERS: usize = 2000;
 
-// What is planted in an entry.
-const WRONG_NUMBER: u64 = 1;
-
-const WRONG_SHEET: u64 = 2;
-
-const WRONG_LIST: u64 = 3;
-
 // How many entries are right, and how many of these differ; how many have a wrong number, a wrong sheet or a wrong list, and how many of
-// these were noticed; and whether the reading ended before the last.
-#[derive(Clone, Copy)]
+// these were noticed.
+#[derive(Clone, Copy, Default)]
 struct Tally {
     mends: u64,
     differ: u64,
@@ -39,132 +33,58 @@ struct Tally {
     sheets_noticed: u64,
     lists: u64,
     lists_noticed: u64,
-    ended: bool,
 }
 
-// Lends the front of each buffer.
-fn lend(f: Front, sheet: &[u8], stated: &[u8], mended: &mut [u8], changes: &mut [u32]) -> Verdict {
-    if stated.len() < f.room {
-        return not_read();
-    }
-    let numbers = (stated.len() - f.room) / 4;
-    if mended.len() < f.room {
-        return not_read();
-    }
-    if changes.len() < numbers {
-        return not_read();
-    }
-    let room = f.room;
-    compare(
-        f,
-        sheet,
-        &stated[..room],
-        &stated[room..],
-        &mut mended[..room],
-        &mut changes[..numbers],
-    )
-}
-
-// All but one of three facts hold: the one that is planted does not.
-fn noticed(planted: bool, wrong: bool, one: bool, other: bool) -> bool {
-    both(both(planted, !wrong), both(one, other))
-}
-
-fn added(t: Tally, v: Verdict, planted: u64) -> Tally {
-    let right = planted == 0;
-    let number = planted == WRONG_NUMBER;
-    let sheet = planted == WRONG_SHEET;
-    let list = planted == WRONG_LIST;
-    let same = both(v.numbers, both(v.sheet, v.list));
+fn added(t: Tally, v: Verdict, planted: Planted) -> Tally {
+    let right = planted == Planted::Nothing;
+    let number = planted == Planted::Number;
+    let sheet = planted == Planted::Sheet;
+    let list = planted == Planted::List;
+    // Where one of three facts is planted, it alone does not hold.
     Tally {
         mends: counted(t.mends, right),
-        differ: counted(t.differ, both(right, !same)),
+        differ: counted(t.differ, right && !(v.numbers && v.sheet && v.list)),
         numbers: counted(t.numbers, number),
-        numbers_noticed: counted(
-            t.numbers_noticed,
-            noticed(number, v.numbers, v.sheet, v.list),
-        ),
+        numbers_noticed: counted(t.numbers_noticed, number && !v.numbers && v.sheet && v.list),
         sheets: counted(t.sheets, sheet),
-        sheets_noticed: counted(t.sheets_noticed, noticed(sheet, v.sheet, v.numbers, v.list)),
+        sheets_noticed: counted(t.sheets_noticed, sheet && v.numbers && !v.sheet && v.list),
         lists: counted(t.lists, list),
-        lists_noticed: counted(t.lists_noticed, noticed(list, v.list, v.numbers, v.sheet)),
-        ended: t.ended,
+        lists_noticed: counted(t.lists_noticed, list && v.numbers && v.sheet && !v.list),
     }
 }
 
-fn ended(mut t: Tally) -> Tally {
-    t.ended = true;
-    t
-}
-
-// One entry more. One that the corpus does not hold whole ends the reading.
-fn compare_entry(
-    rt: HostRuntime,
+// The count with one entry more; none where the corpus does not hold it whole.
+fn compare_next<R: Read>(
+    from: &mut R,
     t: Tally,
     sheet: &mut [u8],
     stated: &mut [u8],
     mended: &mut [u8],
     changes: &mut [u32],
-) -> Tally {
+) -> Option<Tally> {
     let mut front = [0u8; FRONT];
-    if read_full(&mut rt.stdin(), &mut front) < FRONT {
-        return ended(t);
+    if read_full(from, &mut front) < FRONT {
+        return None;
     }
     let f = front_of(&front);
-    let n = f.sheet;
-    let m = f.stated;
-    if !read_front(&mut rt.stdin(), sheet, n) {
-        return ended(t);
+    if !read_front(from, sheet, f.sheet) || !read_front(from, stated, f.stated) {
+        return None;
     }
-    if !read_front(&mut rt.stdin(), stated, m) {
-        return ended(t);
-    }
-    let v = lend(f, &sheet[..n], &stated[..m], mended, changes);
-    if v.read {
-        return added(t, v, f.planted);
-    }
-    ended(t)
-}
-
-fn compare_all(
-    rt: HostRuntime,
-    count: u64,
-    sheet: &mut [u8],
-    stated: &mut [u8],
-    mended: &mut [u8],
-    changes: &mut [u32],
-) -> Tally {
-    let mut t = Tally {
-        mends: 0,
-        differ: 0,
-        numbers: 0,
-        numbers_noticed: 0,
-        sheets: 0,
-        sheets_noticed: 0,
-        lists: 0,
-        lists_noticed: 0,
-        ended: false,
-    };
-    for _ in 0..count {
-        if t.ended {
-            return t;
-        }
-        t = compare_entry(rt, t, sheet, stated, mended, changes);
-    }
-    t
+    let v = lend(f, &sheet[..f.sheet], &stated[..f.stated], mended, changes)?;
+    Some(added(t, v, f.planted))
 }
 
 fn main(rt: HostRuntime) {
-    let mut count = [0u8; 4];
-    if read_full(&mut rt.stdin(), &mut count) < 4 {
-        return;
-    }
     let mut sheet = [0u8; ROOM];
     let mut stated = [0u8; STATED];
     let mut mended = [0u8; ROOM];
     let mut changes = [0u32; NUMBERS];
-    let n = four(count[0], count[1], count[2], count[3]);
-    let t = compare_all(rt, n, &mut sheet, &mut stated, &mut mended, &mut changes);
+    let counted = over_entries(&mut rt.stdin(), Tally::default(), |from, t| {
+        compare_next(from, t, &mut sheet, &mut stated, &mut mended, &mut changes)
+    });
+    let Some(t) = counted else {
+        return;
+    };
     put(rt, t.mends, b" mends compared, ");
     put(rt, t.differ, b" differ; noticed of what is planted: ");
     put(rt, t.numbers_noticed, b" of ");

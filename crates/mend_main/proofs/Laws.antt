@@ -2,74 +2,72 @@
 -- it lends is enough.
 use mathlib.Core.Path.{◌≡◌, refl, sym, ap, ◌∙◌, subst}
 use mathlib.Core.List.{List, [], ◌∷◌, ◌++◌}
-use Prim.Native.Nat.{ℕ, suc, ◌+◌, ◌*◌, ◌^◌, ◌≤◌, ◌<◌}
+use Prim.Native.Nat.{ℕ, suc, ◌+◌, ◌*◌, ◌/◌, ◌^◌, ◌≤◌, ◌<◌}
 use native.Mathlib.Decide.{dec_le}
 use native.Mathlib.Omega.{arith}
-use lib.ListN.{length, take, drop, get_or, length-drop, length-take}
+use lib.ListN.{length, take, drop, get_or, length-take, drop_of_length-le}
 use lib.Seq.{drop-cons}
 use Rattle.rules.specs.Base.{nil, ◌&◌}
 use Rattle.rules.specs.Constants.{longest_sheet}
 use Rattle.rules.specs.Refusal.{too_long}
 use Rattle.rules.specs.Program.{Program}
 use Rattle.rules.specs.Format.{Bytes, Got, bad, got, read_fields}
-use Rattle.rules.specs.Product.{decimal}
 use Rattle.rules.proofs.Longest.{told-by-front}
 use Rattle.writing.specs.Out.{out_of, write, Writes, line_of}
-use Rattle.writing.proofs.Written.{then-writes, writes-length}
-use Rattle.writing.proofs.Line.{number-then, last-number, line-ends}
+use Rattle.std.specs.Simd.{first_chunks}
+use Rattle.writing.proofs.Written.{then-writes, none_written, same_text, writes-length}
+use Rattle.writing.proofs.Line.{line-ends}
 use Rattle.mended.specs.Mend.{Mending, mended, refused_with, mend}
 use Rattle.mended.specs.Claims.{MendClaims}
 use Rattle.mended.proofs.Answer.{sheet-reads, answer-inside, list-long}
 use Rattle.mended.proofs.Claims.{mend-claims}
-use Rattle.mend.specs.Shape.{four}
+use Rattle.mend.specs.declared.outputs.Mending as D
+use Rattle.mend.specs.Shape.{four, mending_of}
 use Rattle.mend_main.specs.Text.{lent_numbers, longest_text, answered, written, lines, four_of, said, EnoughLent, EnoughRead}
 
 -- ---- lines
-
-pub four-written : (r p w n : ℕ) (l₀ l₁ l₂ l₃ l₄ : Bytes) (p₁ p₂ p₃ p₄ : ℕ) → Writes (decimal r ++ 32 ∷ []) l₀ 0 l₁ p₁ → Writes (decimal p ++ 32 ∷ []) l₁ p₁ l₂ p₂
-    → Writes (decimal w ++ 32 ∷ []) l₂ p₂ l₃ p₃ → Writes (decimal n ++ 10 ∷ []) l₃ p₃ l₄ p₄ → Writes (line_of (four r p w n)) l₀ 0 l₄ p₄
-four-written r p w n l₀ l₁ l₂ l₃ l₄ p₁ p₂ p₃ p₄ a b c d =
-    number-then r p _ l₀ l₁ l₄ 0 p₁ p₄ a (number-then p w _ l₁ l₂ l₄ p₁ p₂ p₄ b (number-then w n [] l₂ l₃ l₄ p₂ p₃ p₄ c (last-number n l₃ l₄ p₃ p₄ d)))
-
-pub four-ends : (r p w n : ℕ) → r < 2 ^ 64 → p < 2 ^ 64 → w < 2 ^ 64 → n < 2 ^ 64 → (l m : Bytes) (e : ℕ) → Writes (line_of (four r p w n)) l 0 m e → 84 ≤ length l → e ≤ 84
-four-ends r p w n a b c d l m e v h =
-    let x = line-ends 19 (four r p w n) ((omega arith) & (omega arith) & (omega arith) & (omega arith) & nil) l m 0 e v (omega arith) in omega arith
-
-pub change-written : (k p : ℕ) (l₀ l₁ l₂ : Bytes) (p₀ p₁ p₂ : ℕ) → Writes (decimal k ++ 32 ∷ []) l₀ p₀ l₁ p₁ → Writes (decimal p ++ 10 ∷ []) l₁ p₁ l₂ p₂ → Writes (line_of (k ∷ p ∷ [])) l₀ p₀ l₂ p₂
-change-written k p l₀ l₁ l₂ p₀ p₁ p₂ a b = number-then k p [] l₀ l₁ l₂ p₀ p₁ p₂ a (last-number p l₁ l₂ p₁ p₂ b)
 
 pub change-ends : (k p : ℕ) → k < 2 ^ 32 → p < 2 ^ 32 → (l m : Bytes) (a e : ℕ) → Writes (line_of (k ∷ p ∷ [])) l a m e → a + 22 ≤ length l → e ≤ a + 22
 change-ends k p f g l m a e v h = let x = line-ends 9 (k ∷ p ∷ []) ((omega arith) & (omega arith) & nil) l m a e v (omega arith) in omega arith
 
 -- ---- a line for each change: what is written so far, and that the rest belongs behind it
 
-abbrev pub Rest : List ℕ → Bytes → ℕ → Bytes → ℕ → ℕ → Type 0
-Rest ns l from m at i = (x : Bytes) (r : ℕ) → Writes (lines (drop i ns)) m at x r → Writes (lines ns) l from x r
+-- the list as pairs
+abbrev pub pairs_in : List ℕ → List (List ℕ)
+pairs_in ns = first_chunks 2 (length ns / 2) ns
 
-module _ (ns : List ℕ) (l : Bytes) (from : ℕ) where
-  pub rest_all : Rest ns l from l from 0
-  rest_all x r w = w
+unfoldable pub pair-lines : List (List ℕ) → Bytes
+pair-lines [] = []
+pair-lines (x ∷ xs) = line_of (get_or x 0 0 ∷ get_or x 1 0 ∷ []) ++ pair-lines xs
 
-  pub rest-next : (m n : Bytes) (a b i : ℕ) → i + 1 < length ns → Rest ns l from m a i → Writes (line_of (get_or ns i 0 ∷ get_or ns (i + 1) 0 ∷ [])) m a n b → Rest ns l from n b (i + 2)
-  unfolding lines
+lines_are : (ns : List ℕ) → pair-lines (pairs_in ns) ≡ lines ns
+unfolding lines pair-lines
+lines_are [] = refl
+lines_are (k ∷ []) = refl
+lines_are (k ∷ p ∷ ns) =
+    let half : length (k ∷ p ∷ ns) / 2 ≡ suc (length ns / 2) = omega arith in
+    ap (λ (n : ℕ). pair-lines (first_chunks 2 n (k ∷ p ∷ ns))) half ∙ ap (λ (t : Bytes). line_of (k ∷ p ∷ []) ++ t) (lines_are ns)
+
+abbrev pub Rest : List (List ℕ) → Bytes → ℕ → Bytes → ℕ → ℕ → Type 0
+Rest ps l from m at i = (x : Bytes) (r : ℕ) → Writes (pair-lines (drop i ps)) m at x r → Writes (pair-lines ps) l from x r
+
+module _ (ps : List (List ℕ)) (l : Bytes) (from : ℕ) where
+  pub rest-next : (m n : Bytes) (a b i : ℕ) → i < length ps → Rest ps l from m a i → Writes (line_of (get_or (get_or ps i []) 0 0 ∷ get_or (get_or ps i []) 1 0 ∷ [])) m a n b
+      → Rest ps l from n b (i + 1)
+  unfolding pair-lines
   rest-next m n a b i h f w x r v =
       let e : suc i ≡ i + 1 = omega arith in
-      let g : suc (i + 1) ≡ i + 2 = omega arith in
-      let two : drop i ns ≡ get_or ns i 0 ∷ get_or ns (i + 1) 0 ∷ drop (i + 2) ns =
-      drop-cons ns i 0 (omega arith) ∙ ap (λ (k : ℕ). get_or ns i 0 ∷ drop k ns) e
-      ∙ ap (λ (t : List ℕ). get_or ns i 0 ∷ t) (drop-cons ns (i + 1) 0 h ∙ ap (λ (k : ℕ). get_or ns (i + 1) 0 ∷ drop k ns) g) in
-      f x r (subst (λ (t : List ℕ). Writes (lines t) m a x r) (sym two) (then-writes (line_of (get_or ns i 0 ∷ get_or ns (i + 1) 0 ∷ [])) (lines (drop (i + 2) ns)) m n x a b r w v))
+      let x₀ = get_or ps i [] in
+      let here : drop i ps ≡ x₀ ∷ drop (i + 1) ps = drop-cons ps i [] h ∙ ap (λ (k : ℕ). x₀ ∷ drop k ps) e in
+      f x r (subst (λ (t : List (List ℕ)). Writes (pair-lines t) m a x r) (sym here)
+      (then-writes (line_of (get_or x₀ 0 0 ∷ get_or x₀ 1 0 ∷ [])) (pair-lines (drop (i + 1) ps)) m n x a b r w v))
 
-  short_none : (t : List ℕ) → length t ≤ 1 → lines t ≡ []
-  unfolding lines
-  short_none [] h = refl
-  short_none (k ∷ []) h = refl
-  short_none (k ∷ p ∷ t) h = absurd (omega arith)
+  pub rest-none : (m : Bytes) (a i : ℕ) → length ps ≤ i → Rest ps l from m a i → Writes (pair-lines ps) l from m a
+  unfolding pair-lines
+  rest-none m a i h f = f m a (rw (drop_of_length-le ps h) (none_written m a))
 
-  pub rest-none : (m : Bytes) (a i : ℕ) → length ns ≤ i + 1 → Rest ns l from m a i → Writes (lines ns) l from m a
-  unfolding write
-  rest-none m a i h f =
-      f m a (subst (λ (t : Bytes). Writes t m a m a) (sym (short_none (drop i ns) (omega (arith, length-drop i ns)))) refl)
+pub lines-put : (ns : List ℕ) (ps : List (List ℕ)) → ps ≡ pairs_in ns → (l m : Bytes) (a r : ℕ) → Writes (pair-lines ps) l a m r → Writes (lines ns) l a m r
+lines-put ns ps e l m a r w = same_text (pair-lines ps) (lines ns) l m a r (ap pair-lines e ∙ lines_are ns) w
 
 -- ---- what is told of a sheet
 
@@ -102,10 +100,27 @@ module _ (s : Bytes) (a : Mending) (e : a ≡ answered s) where
       let end = g (omega arith) in
       omega arith
 
--- with the buffers that are lent
-pub lent-answer : (s : Bytes) (n k : ℕ) {a : Mending} → a ≡ mend s n k → n ≡ longest_sheet → k ≡ lent_numbers → a ≡ answered s
-unfolding answered
-lent-answer s n k e f g = e ∙ (λ i. mend s (f i) (g i))
+-- with the buffers that are lent, as the code has it
+module _ (s : Bytes) {r : D.Mending} {sheet : Bytes} {list : List ℕ} {n k : ℕ} (is : mending_of r sheet list ≡ mend s n k) (f : n ≡ longest_sheet) (g : k ≡ lent_numbers) where
+  answer-is : mending_of r sheet list ≡ answered s
+  unfolding answered
+  answer-is = is ∙ (λ i. mend s (f i) (g i))
+
+  pub sheet-told : take r.written sheet ≡ written s
+  sheet-told = told-sheet s (mending_of r sheet list) answer-is
+
+  pub sheet-inside : r.written ≤ length sheet
+  sheet-inside = (told-inside s (mending_of r sheet list) answer-is).0
+
+  pub list-inside : r.listed ≤ length list
+  list-inside = (told-inside s (mending_of r sheet list) answer-is).1
+
+  pub text-told : (l m x : Bytes) (p q : ℕ) → Writes (line_of (four r.refusal r.place r.written r.listed)) l 0 m p → Writes (lines (take r.listed list)) m p x q → Writes (said s) l 0 x q
+  text-told l m x p q v w = told_text s (mending_of r sheet list) answer-is l m x p q v w
+
+  pub text-inside : (l m x : Bytes) (p q : ℕ) → Writes (line_of (four r.refusal r.place r.written r.listed)) l 0 m p → Writes (lines (take r.listed list)) m p x q → longest_text ≤ length l
+      → (84 ≤ length l → p ≤ 84) → (p + 11 * length (take r.listed list) ≤ length m → q ≤ p + 11 * length (take r.listed list)) → q ≤ length x
+  text-inside l m x p q v w room a b = said-inside s (mending_of r sheet list) answer-is l m x p q v w room a b
 
 -- ---- the claims
 

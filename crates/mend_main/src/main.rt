@@ -9,13 +9,9 @@ ghost use Rattle.writing.specs.Out.{Writes, line_of};
 ghost use Rattle.mend.specs.Shape.{four};
 ghost use Rattle.mend_main.specs.Text as Text;
 
-use files::{read_full, tell};
+use files::{MOST_OF_SHEET, read_sheet, tell};
 use mend::{Mending, mend_sheet};
 use std::io::Print;
-use writing::put_number;
-
-// One byte more than a sheet may have, so that a longer one is seen to be too long.
-const MOST_BYTES: usize = 16385;
 
 // What is lent: the longest sheet, and enough numbers for whatever can be changed in one.
 const LENT_BYTES: usize = 16384;
@@ -36,18 +32,14 @@ fn put_line(out: &mut [u8], m: Mending) -> usize
     ensures writes { Writes (line_of (four m.refusal m.place m.written m.listed)) out.old 0 out.new result }
     ensures upper_bound { 84 ≤ length out.old → result ≤ 84 }
 {
-    let second = put_number(out, 0, m.refusal as usize, b' ');
-    let third = put_number(out, second, m.place, b' ');
-    let fourth = put_number(out, third, m.written, b' ');
-    put_number(out, fourth, m.listed, b'\n')
+    writing::put_line(out, 0, &[m.refusal as usize, m.place, m.written, m.listed])
 }
 
 fn put_change(out: &mut [u8], from: usize, kind: u32, place: u32) -> usize
     ensures writes { Writes (line_of (kind ∷ place ∷ [])) out.old from out.new result }
     ensures upper_bound { from + 22 ≤ length out.old → result ≤ from + 22 }
 {
-    let second = put_number(out, from, kind as usize, b' ');
-    put_number(out, second, place as usize, b'\n')
+    writing::put_line(out, from, &[kind as usize, place as usize])
 }
 
 // A line for each change.
@@ -56,10 +48,9 @@ fn put_changes(out: &mut [u8], from: usize, changes: &[u32]) -> usize
     ensures upper_bound { from + 11 * length changes.now ≤ length out.old → result ≤ from + 11 * length changes.now }
 {
     let mut at = from;
-    let mut i: usize = 0;
-    while i + 1 < changes.len() {
-        at = put_change(out, at, changes[i], changes[i + 1]);
-        i += 2;
+    let (pairs, _) = changes.as_chunks::<2>();
+    for &[kind, place] in pairs {
+        at = put_change(out, at, kind, place);
     }
     at
 }
@@ -82,16 +73,9 @@ fn answer(sheet: &[u8], mended: &mut [u8], out: &mut [u8]) -> Told
     }
 }
 
-// Reads standard input as far as there is room, and gives how many bytes it read.
-fn read_sheet(rt: HostRuntime, sheet: &mut [u8; MOST_BYTES]) -> usize
-    ensures { (length sheet.new ≡ longest_sheet + 1) × (result ≤ longest_sheet + 1) }
-{
-    read_full(&mut rt.stdin(), sheet)
-}
-
 fn main(rt: HostRuntime) {
-    let mut sheet = [0u8; MOST_BYTES];
-    let n = read_sheet(rt, &mut sheet);
+    let mut sheet = [0u8; MOST_OF_SHEET];
+    let n = read_sheet(&mut rt.stdin(), &mut sheet);
     let mut mended = [0u8; LENT_BYTES];
     let mut out = [0u8; LONGEST_TEXT];
     let told = answer(&sheet[..n], &mut mended, &mut out);

@@ -1,5 +1,5 @@
 -- How each kind of expression is written, the rules' readers by depth and level, and what a reader owes that goes on from something read.
-use Rattle.std.specs.Prelude.{Bool, true, false, List, ℕ, zero, suc, ◌≤◌, eqb, length, drop, if◌then◌else◌}
+use Rattle.std.specs.Prelude.{Bool, true, false, List, ℕ, zero, suc, ◌≤◌, eqb, length, drop, if◌then◌else◌, Result, Ok}
 use Rattle.rules.specs.Format.{Bytes}
 use Rattle.rules.specs.Interval.{Operator, plus, minus, times, divide}
 use Rattle.rules.specs.Program.{Arith, operation, Condition, conjunction, equal, less}
@@ -7,7 +7,7 @@ use Rattle.rules.specs.Encoding.{encode_arith, encode_condition}
 use Rattle.text.specs.Words.{Read, took, then_read, Word}
 use Rattle.text.specs.Notation.{Thing, arithmetic, logical, on_thing, is_condition, products, sums, chain, from_left, factor, closed, too_deep, onward, start, either}
 use Rattle.text.specs.Convert.{arith_fits, condition_fits}
-use Rattle.scan.specs.Writing.{Form, Builds, OnwardBuilt, Begun}
+use Rattle.scan.specs.Writing.{Form, Made, Builds, OnwardBuilt, Begun}
 use Rattle.scan.specs.declared.step.Built.{Built}
 
 -- ---- how each kind is written
@@ -73,19 +73,20 @@ begins d g = then_read g (λ x r. on_thing x (λ a. onward (factor d) a r) (λ c
 -- ---- what a reader owes that goes on
 
 -- further operands behind one that stands written, whatever bounds the turns
-abbrev pub ChainBuilds : {A : Type 0} → Form A → List (Word (A → A → A)) → (Bytes → Read A) → Bytes → ℕ → Bytes → ℕ → ℕ → Bool → Bytes → Built → Type 0
-ChainBuilds {A} F ws operand s p first at end fits after r =
-    (o : Bytes) (a : A) (n : ℕ) → length (drop p s) ≤ n → Begun F o at first end fits a → Builds F s o at after (chain ws operand n a (drop p s)) r
+abbrev pub ChainBuilds : {A : Type 0} → Form A → List (Word (A → A → A)) → (Bytes → Read A) → Bytes → ℕ → Bytes → Built → Bytes → Result Built ℕ → Type 0
+ChainBuilds {A} F ws operand s at now first after r =
+    (o : Bytes) (a : A) (n : ℕ) → length (drop first.place s) ≤ n → Begun F o at now first a
+    → Builds F s o at after (chain ws operand n a (drop first.place s)) r
 
 -- what an opening parenthesis began, closed
-abbrev pub Closes : {A : Type 0} → Form A → Bytes → Built → Built → Type 0
-Closes {A} F s x r = (out : Bytes) (at : ℕ) (after : Bytes) (g : Read A) → Builds F s out at after g x → Builds F s out at after (closed g) r
+abbrev pub Closes : {A : Type 0} → Form A → Bytes → Built → Result Built ℕ → Type 0
+Closes {A} F s x r = (out : Bytes) (at : ℕ) (after : Bytes) (g : Read A) → Made F s out at after g x → Builds F s out at after (closed g) r
 
 -- a condition, where one is due
-abbrev pub Requires : Bytes → Built → Built → Type 0
-Requires s x r = (out : Bytes) (at : ℕ) (after : Bytes) (g : Read Thing) → Builds thing_form s out at after g x
+abbrev pub Requires : Bytes → Built → Result Built ℕ → Type 0
+Requires s x r = (out : Bytes) (at : ℕ) (after : Bytes) (g : Read Thing) → Made thing_form s out at after g x
     → Builds condition_form s out at after (then_read g is_condition) r
 
 -- no place and no end goes back
-abbrev pub KeepsOn : Bytes → Built → Built → Type 0
-KeepsOn s x r = (p at : ℕ) → OnwardBuilt s p at x → OnwardBuilt s p at r
+abbrev pub KeepsOn : Bytes → Built → Result Built ℕ → Type 0
+KeepsOn s x r = (p at : ℕ) → OnwardBuilt s p at (Ok x) → OnwardBuilt s p at r

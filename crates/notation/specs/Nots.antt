@@ -1,10 +1,10 @@
 -- `!`s before an operand.
-use Rattle.std.specs.Prelude.{◌≡◌, Bool, true, [], ℕ, zero, suc, ◌≤◌, ◌<◌, ltb, length, drop, replicate}
+use Rattle.std.specs.Prelude.{◌≡◌, Bool, true, [], ℕ, zero, suc, ◌≤◌, ◌<◌, ltb, length, drop, replicate, Result}
 use Rattle.rules.specs.Format.{Bytes}
 use Rattle.rules.specs.Program.{Condition, negation}
 use Rattle.text.specs.Words.{Read, stop, then_read}
 use Rattle.text.specs.Notation.{Thing, negated, atom}
-use Rattle.scan.specs.Writing.{Wrote, Builds}
+use Rattle.scan.specs.Writing.{Wrote, Made, Builds}
 use Rattle.scan.specs.declared.step.Built.{Built}
 use Rattle.notation.specs.Forms.{thing_form}
 
@@ -29,6 +29,6 @@ pub record NotsRead (s : Bytes) (p : ℕ) (out : Bytes) (at : ℕ) (after : Byte
   pub top : e ≤ 65536
 
 -- what follows them, and them
-abbrev pub Negates : Bytes → Bool → Built → Built → Type 0
+abbrev pub Negates : Bytes → Bool → Built → Result Built ℕ → Type 0
 Negates s some x r = (out mid after : Bytes) (at e n : ℕ) (g : Read Thing) → length out ≡ length mid → length mid < 65536 → some ≡ ltb 0 n
-    → Wrote out at (replicate n 34) true mid e → Builds thing_form s mid e after g x → Builds thing_form s out at after (nots n g) r
+    → Wrote out at (replicate n 34) true mid e → Made thing_form s mid e after g x → Builds thing_form s out at after (nots n g) r

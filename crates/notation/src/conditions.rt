@@ -7,49 +7,59 @@ ghost use Rattle.text.specs.Words.{Read, map_read};
 ghost use Rattle.text.specs.Lines.{word_only};
 ghost use Rattle.text.specs.Notation.{Thing, logical, factor, conjunctions, first, atom, atomic, either};
 ghost use Rattle.text.specs.Convert.{condition_fits};
-ghost use Rattle.scan.specs.Writing.{Builds, built_place, OnwardBuilt};
+ghost use Rattle.scan.specs.Writing.{Builds, OnwardBuilt};
 ghost use Rattle.notation.specs.Forms.{thing_form, condition_form, group_at, start_at, ChainBuilds, KeepsOn};
 ghost use Rattle.notation.specs.Nots.{NotsRead, Negates};
 
 use crate::arithmetic::arith_at;
 use crate::closing::{closed_at, condition_only};
 use crate::comparisons::begun_at;
-use crate::signs::{Sign, conjunction_at};
-use scan::{Built, MOST_KEPT, Step, both, insert, keep, past, put, spaces_end, word_only_at};
+use crate::signs::conjunction_at;
+use scan::{Built, Waiting, past, put, spaces_end, word_only_at};
 
 // `true` or `false`.
-fn truth_at(s: &[u8], p: usize, w: &[u8], code: u8, out: &mut [u8], at: usize) -> Built
+#[tactic(auto, using(crate::proofs::ConditionLaws::truths_written), unfolding(scan::specs::Writing::Builds))]
+fn truth_at(
+    s: &[u8],
+    p: usize,
+    w: &[u8],
+    code: u8,
+    out: &mut [u8],
+    at: usize,
+) -> Result<Built, usize>
     requires { (p ≤ length s.now) × (0 < length w.now) × (at ≤ 65536) }
-    ensures { ((c : Condition) → encode_condition c ≡ code ∷ [] → condition_fits c ≡ Bool.true
-        → Builds thing_form s.now out.old at out.new (map_read (λ _. logical c) (word_only w.now (drop p s.now))) result)
-        × (OnwardBuilt s.now p at result) }
+    ensures builds { (c : Condition) → encode_condition c ≡ code ∷ [] → condition_fits c ≡ Bool.true
+        → Builds thing_form s.now out.old at out.new (map_read (λ _. logical c) (word_only w.now (drop p s.now))) result }
+    ensures onward { OnwardBuilt s.now p at result }
 {
-    let x = word_only_at(s, p, w);
-    match x {
-        Step::Stop(q) => Built::Stop(q),
-        Step::Took(_, q) => {
-            put(out, at, code);
-            let e = past(at, 1);
-            Built::Took(true, q, e, true)
-        }
-    }
+    let (_, place) = word_only_at(s, p, w)?;
+    put(out, at, code);
+    Ok(Built {
+        condition: true,
+        place,
+        end: past(at, 1),
+        fits: true,
+    })
 }
 
 // A first operand that no parenthesis opens: a truth, a constant or a register.
-fn word_or_leaf_at(s: &[u8], p: usize, depth: usize, out: &mut [u8], at: usize) -> Built
+fn word_or_leaf_at(
+    s: &[u8],
+    p: usize,
+    depth: usize,
+    out: &mut [u8],
+    at: usize,
+) -> Result<Built, usize>
     requires { (p < length s.now) × (at ≤ 65536) × (length out.old < 65536) }
-    ensures { ((inside : Bytes → Read Thing) → (get_or s.now p 0 ≡ 40 → ⊥)
-        → Builds thing_form s.now out.old at out.new (first inside (factor depth) (drop p s.now)) result)
-        × (OnwardBuilt s.now p at result) }
+    ensures builds { (inside : Bytes → Read Thing) → (get_or s.now p 0 ≡ 40 → ⊥)
+        → Builds thing_form s.now out.old at out.new (first inside (factor depth) (drop p s.now)) result }
+    ensures onward { OnwardBuilt s.now p at result }
 {
-    let b = s[p];
-    if b == 116 {
-        return truth_at(s, p, b"true", 32, out, at);
+    match s[p] {
+        b't' => truth_at(s, p, b"true", 32, out, at),
+        b'f' => truth_at(s, p, b"false", 33, out, at),
+        _ => arith_at(s, p, depth, 0, out, at),
     }
-    if b == 102 {
-        return truth_at(s, p, b"false", 33, out, at);
-    }
-    arith_at(s, p, depth, 0, out, at)
 }
 
 // The place behind spaces and `!`s, the end of what was written for these, and whether there was one.
@@ -65,142 +75,125 @@ fn nots_at(s: &[u8], p: usize, out: &mut [u8], at: usize) -> Nots
     requires { (p ≤ length s.now) × (at ≤ 65536) × (length out.old < 65536) }
     ensures { NotsRead s.now p out.old at out.new result.place result.end result.some }
 {
-    let mut q = p;
-    let mut e = at;
-    let mut some = false;
-    loop {
-        let t = spaces_end(s, q);
-        if s.len() <= t {
-            return Nots {
-                place: t,
-                end: e,
-                some: some,
-            };
-        }
-        if s[t] != 33 {
-            return Nots {
-                place: t,
-                end: e,
-                some: some,
-            };
-        }
-        put(out, e, 34);
-        e = past(e, 1);
-        q = t + 1;
-        some = true;
+    let mut nots = Nots {
+        place: spaces_end(s, p),
+        end: at,
+        some: false,
+    };
+    while s.get(nots.place) == Some(&b'!') {
+        put(out, nots.end, 34);
+        nots = Nots {
+            place: spaces_end(s, nots.place + 1),
+            end: past(nots.end, 1),
+            some: true,
+        };
     }
+    nots
 }
 
 // `!` takes a condition.
-fn negated_by(s: &[u8], some: bool, x: Built) -> Built
-    requires { built_place x ≤ length s.now }
-    ensures { (Negates s.now some x result) × (KeepsOn s.now x result) }
+fn negated_by(s: &[u8], some: bool, x: Built) -> Result<Built, usize>
+    requires { x.place ≤ length s.now }
+    ensures negates { Negates s.now some x result }
+    ensures onward { KeepsOn s.now x result }
 {
-    if some {
-        return condition_only(s, x);
-    }
-    x
+    if some { condition_only(s, x) } else { Ok(x) }
 }
 
 // The first operand, from its first byte.
+#[tactic(auto, using(scan::proofs::WordLaws::places, crate::proofs::ConditionLaws::groups), unfolding(crate::proofs::Opened::firsts))]
 #[cycle(atom_at_conditions_at_either_at_first_at)]
-fn first_at(s: &[u8], p: usize, depth: usize, out: &mut [u8], at: usize) -> Built
+fn first_at(s: &[u8], p: usize, depth: usize, out: &mut [u8], at: usize) -> Result<Built, usize>
     requires { (p ≤ length s.now) × (at ≤ 65536) × (length out.old < 65536) }
-    ensures { (Builds thing_form s.now out.old at out.new (first (group_at depth) (factor depth) (drop p s.now)) result)
-        × (OnwardBuilt s.now p at result) }
+    ensures builds { Builds thing_form s.now out.old at out.new (first (group_at depth) (factor depth) (drop p s.now)) result }
+    ensures onward { OnwardBuilt s.now p at result }
 {
-    if s.len() <= p {
-        return Built::Stop(p);
-    }
-    if s[p] == 40 {
-        let inside = p + 1;
-        if depth == 0 {
-            return Built::Stop(p);
+    match s.get(p) {
+        None => Err(p),
+        Some(b'(') if depth == 0 => Err(p),
+        Some(b'(') => {
+            let inside = either_at(s, p + 1, depth - 1, out, at)?;
+            closed_at(s, inside)
         }
-        let x = either_at(s, inside, depth - 1, out, at);
-        return closed_at(s, x);
+        Some(_) => word_or_leaf_at(s, p, depth, out, at),
     }
-    word_or_leaf_at(s, p, depth, out, at)
 }
 
 // One operand of `&&`, with the `!`s and spaces before it.
 #[cycle(atom_at_conditions_at_either_at_first_at)]
-fn atom_at(s: &[u8], p: usize, depth: usize, out: &mut [u8], at: usize) -> Built
+fn atom_at(s: &[u8], p: usize, depth: usize, out: &mut [u8], at: usize) -> Result<Built, usize>
     requires { (p ≤ length s.now) × (at ≤ 65536) × (length out.old < 65536) }
-    ensures { (Builds thing_form s.now out.old at out.new (atom (start_at depth) (drop p s.now)) result)
-        × (OnwardBuilt s.now p at result) }
+    ensures builds { Builds thing_form s.now out.old at out.new (atom (start_at depth) (drop p s.now)) result }
+    ensures onward { OnwardBuilt s.now p at result }
 {
-    let n = nots_at(s, p, out, at);
-    let x = first_at(s, n.place, depth, out, n.end);
-    let y = begun_at(s, x, depth, out, n.end);
-    negated_by(s, n.some, y)
+    let nots = nots_at(s, p, out, at);
+    let first = first_at(s, nots.place, depth, out, nots.end)?;
+    let operand = begun_at(s, first, depth, out, nots.end)?;
+    negated_by(s, nots.some, operand)
 }
 
-// The operands of `&&` that follow one.
+// One operand of `&&`: a condition.
+#[tactic(auto, using(crate::proofs::ConditionLaws::atomic_is), unfolding(crate::proofs::Opened::operands))]
+#[cycle(atom_at_conditions_at_either_at_first_at)]
+fn operand_at(s: &[u8], p: usize, depth: usize, out: &mut [u8], at: usize) -> Result<Built, usize>
+    requires { (p ≤ length s.now) × (at ≤ 65536) × (length out.old < 65536) }
+    ensures builds { Builds condition_form s.now out.old at out.new (atomic (start_at depth) (drop p s.now)) result }
+    ensures onward { OnwardBuilt s.now p at result }
+{
+    let atom = atom_at(s, p, depth, out, at)?;
+    condition_only(s, atom)
+}
+
+// The operands of `&&` that follow one. The loop is that of `chain_at` over other readers, which call it again. One loop for both would
+// be handed the readers as closures, each with its clauses written out where it is made, and so be longer than the two.
 #[cycle(atom_at_conditions_at_either_at_first_at)]
 fn conditions_at(
+    s: &[u8],
+    first: Built,
+    depth: usize,
+    out: &mut [u8],
+    at: usize,
+) -> Result<Built, usize>
+    requires { (first.place ≤ length s.now) × (at ≤ first.end) × (first.end ≤ 65536) × (length out.old < 65536) }
+    ensures builds { ChainBuilds condition_form conjunctions (atomic (start_at depth)) s.now at out.old first out.new result }
+    ensures onward { OnwardBuilt s.now first.place at result }
+{
+    let mut waiting = Waiting::none();
+    let mut all = first;
+    while let Some((code, q)) = conjunction_at(s, all.place)? {
+        let from = waiting.keep(out, at, all.end, code);
+        let next = operand_at(s, q, depth, out, from)?;
+        all = Built {
+            fits: all.fits && next.fits,
+            ..next
+        };
+    }
+    let end = waiting.insert(out, at, all.end);
+    Ok(Built {
+        condition: true,
+        end,
+        ..all
+    })
+}
+
+// Arithmetic alone, or operands of `&&`.
+#[tactic(auto, using(crate::proofs::ConditionLaws::either_is), unfolding(crate::proofs::Opened::things))]
+#[cycle(atom_at_conditions_at_either_at_first_at)]
+pub(crate) fn either_at(
     s: &[u8],
     p: usize,
     depth: usize,
     out: &mut [u8],
     at: usize,
-    end: usize,
-    fits: bool,
-) -> Built
-    requires { (p ≤ length s.now) × (at ≤ end) × (end ≤ 65536) × (length out.old < 65536) }
-    ensures { (ChainBuilds condition_form conjunctions (atomic (start_at depth)) s.now p out.old at end fits out.new result)
-        × (OnwardBuilt s.now p at result) }
-{
-    let mut codes = [0u8; MOST_KEPT];
-    let mut count = 0;
-    let mut q = p;
-    let mut e = end;
-    let mut f = fits;
-    loop {
-        let sign = conjunction_at(s, q);
-        match sign {
-            Sign::Nothing => {
-                let all = insert(out, at, e, &codes, count);
-                return Built::Took(true, q, all, f);
-            }
-            Sign::Broken(t) => {
-                return Built::Stop(t);
-            }
-            Sign::Joined(c, r) => {
-                let kept = keep(out, at, e, &mut codes, count, c);
-                let x = atom_at(s, r, depth, out, kept.end);
-                let y = condition_only(s, x);
-                match y {
-                    Built::Stop(t) => {
-                        return Built::Stop(t);
-                    }
-                    Built::Took(_, t, k, g) => {
-                        count = kept.count;
-                        q = t;
-                        e = k;
-                        f = both(f, g);
-                    }
-                }
-            }
-        }
-    }
-}
-
-// Arithmetic alone, or operands of `&&`.
-#[cycle(atom_at_conditions_at_either_at_first_at)]
-pub(crate) fn either_at(s: &[u8], p: usize, depth: usize, out: &mut [u8], at: usize) -> Built
+) -> Result<Built, usize>
     requires { (p ≤ length s.now) × (at ≤ 65536) × (length out.old < 65536) }
-    ensures { (Builds thing_form s.now out.old at out.new (either depth (drop p s.now)) result)
-        × (OnwardBuilt s.now p at result) }
+    ensures builds { Builds thing_form s.now out.old at out.new (either depth (drop p s.now)) result }
+    ensures onward { OnwardBuilt s.now p at result }
 {
-    let x = atom_at(s, p, depth, out, at);
-    match x {
-        Built::Stop(q) => Built::Stop(q),
-        Built::Took(l, q, e, f) => {
-            if l {
-                return conditions_at(s, q, depth, out, at, e, f);
-            }
-            Built::Took(false, q, e, f)
-        }
+    let first = atom_at(s, p, depth, out, at)?;
+    if first.condition {
+        conditions_at(s, first, depth, out, at)
+    } else {
+        Ok(first)
     }
 }

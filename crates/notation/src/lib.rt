@@ -1,7 +1,8 @@
 // Expressions of a text (02, ticket 2): read from left to right, written operator first. Every reader takes the text s, a place p
 // in it, the output and the place in it from which the expression is written. The place is in the text, and the output is shorter
 // than 65,536 bytes. Each gives the place behind the expression and the end of its bytes, which stand in the output where all its
-// numbers fit and there is room for them; otherwise nothing is said of the output.
+// numbers fit and there is room for them; otherwise nothing is said of the output. Its error is the place of the first byte that
+// cannot go on.
 #![tactic(auto)]
 
 mod signs; // what joins two operands
@@ -23,20 +24,22 @@ use scan::Built;
 const MOST_PARENTHESES: usize = 32;
 
 // Arithmetic.
-pub fn sum_at(s: &[u8], p: usize, out: &mut [u8], at: usize) -> Built
+#[tactic(auto, using(crate::proofs::ArithLaws::sum_level), unfolding(text::specs::Notation::read_sum))]
+pub fn sum_at(s: &[u8], p: usize, out: &mut [u8], at: usize) -> Result<Built, usize>
     requires { (p ≤ length s.now) × (at ≤ 65536) × (length out.old < 65536) }
-    ensures { (Builds arith_form s.now out.old at out.new (read_sum (drop p s.now)) result)
-        × (OnwardBuilt s.now p at result) }
+    ensures builds { Builds arith_form s.now out.old at out.new (read_sum (drop p s.now)) result }
+    ensures onward { OnwardBuilt s.now p at result }
 {
     arith_at(s, p, MOST_PARENTHESES, 2, out, at)
 }
 
 // A condition.
-pub fn test_at(s: &[u8], p: usize, out: &mut [u8], at: usize) -> Built
+#[tactic(auto, unfolding(crate::proofs::Opened::tests))]
+pub fn test_at(s: &[u8], p: usize, out: &mut [u8], at: usize) -> Result<Built, usize>
     requires { (p ≤ length s.now) × (at ≤ 65536) × (length out.old < 65536) }
-    ensures { (Builds condition_form s.now out.old at out.new (read_test (drop p s.now)) result)
-        × (OnwardBuilt s.now p at result) }
+    ensures builds { Builds condition_form s.now out.old at out.new (read_test (drop p s.now)) result }
+    ensures onward { OnwardBuilt s.now p at result }
 {
-    let x = either_at(s, p, MOST_PARENTHESES, out, at);
-    condition_only(s, x)
+    let whole = either_at(s, p, MOST_PARENTHESES, out, at)?;
+    condition_only(s, whole)
 }

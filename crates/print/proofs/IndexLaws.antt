@@ -23,13 +23,13 @@ use Rattle.print.specs.Texts.{range_text, statement_text, thread_text, Indexes}
 module _ (s : Bytes) (i : Index) (w : Indexes s i) where
   -- what holds of a program that the sheet reads as holds of `program_in s`
   told : (P : Program → Type 0) → ((g : Program) (e : ℕ) → read_sheet s ≡ got g e → P g) → P (program_in s)
-  told P h = let a = accepted (read_sheet s) w.is w.reads in subst P (sym (program-is s a.0 a.1 a.2)) (h a.0 a.1 a.2)
+  told P h = let a = accepted (read_sheet s) w in subst P (sym (program-is s a.0 a.1 a.2)) (h a.0 a.1 a.2)
 
   pub facts : ProgramFacts s (program_in s)
   facts = told (ProgramFacts s) (program-facts s)
 
   pub index_is : IndexFacts s (program_in s) i
-  index_is = told (λ g. IndexFacts s g i) (λ g e q. index-facts g e w.is q)
+  index_is = told (λ g. IndexFacts s g i) (λ g e q. index-facts g e w q)
 
   inside : RangesInside s (program_in s)
   inside = told (RangesInside s) (ranges-inside s)

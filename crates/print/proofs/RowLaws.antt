@@ -1,7 +1,7 @@
 -- One text for each of a list, written one behind the other; and the lines of ranges.
 use mathlib.Core.Path.{◌≡◌, refl, sym, ap, ◌∙◌}
 use mathlib.Core.List.{List, [], ◌∷◌, ◌++◌, append_assoc}
-use Prim.Native.Nat.{ℕ, zero, suc, ◌+◌, ◌-◌, ◌≤◌, ◌<◌}
+use Prim.Native.Nat.{ℕ, zero, suc, ◌+◌, ◌-◌, ◌*◌, ◌≤◌, ◌<◌}
 use native.Mathlib.Omega.{arith}
 use lib.ListN.{length, get_or, drop}
 use lib.Seq.{drop-cons}
@@ -27,7 +27,7 @@ module _ {A : Type 0} (f : A → Bytes) (d : A) where
       ∙ ap (write (in_row f (drop (suc k) xs))) (sym e)
       ∙ ap (λ (j : ℕ). write (in_row f (drop j xs)) (out_of m b)) one
 
-pub row_done : {A : Type 0} (f : A → Bytes) (xs : List A) (k : ℕ) (o : Out) → length xs ≤ k → write (in_row f (drop k xs)) o ≡ o
+pub row_done : {A : Type 0} (f : A → Bytes) (xs : List A) (k : ℕ) (o : Out ℕ) → length xs ≤ k → write (in_row f (drop k xs)) o ≡ o
 unfolding in_row write
 row_done f [] zero o h = refl
 row_done f [] (suc k) o h = refl
@@ -36,20 +36,33 @@ row_done f (x ∷ xs) (suc k) o h = row_done f xs k o (omega arith)
 
 -- ---- ranges
 
-pub ranges-turn : (w s : Bytes) (p k : ℕ) (l m : Bytes) (a b : ℕ) → 0 < k → Writes (range_text w (range_at s p)) l a m b
-    → write (in_row (range_text w) (ranges s p k)) (out_of l a) ≡ write (in_row (range_text w) (ranges s (p + 11) (k - 1))) (out_of m b)
+-- the first of them
+pub ranges-none : (w s : Bytes) (p n : ℕ) (o : Out ℕ) → write (in_row (range_text w) (ranges s p n)) o ≡ write (in_row (range_text w) (ranges s (p + 11 * 0) (n - 0))) o
+ranges-none w s p n o =
+    let first : p ≡ p + 11 * 0 = omega arith in
+    let all : n ≡ n - 0 = omega arith in
+    λ j. write (in_row (range_text w) (ranges s (first j) (all j))) o
+
+ranges-next : (w s : Bytes) (p k : ℕ) (l m : Bytes) (a b : ℕ) → Writes (range_text w (range_at s p)) l a m b
+    → write (in_row (range_text w) (ranges s p (suc k))) (out_of l a) ≡ write (in_row (range_text w) (ranges s (p + 11) k)) (out_of m b)
 unfolding in_row ranges
-ranges-turn w s p zero l m a b h e = absurd (omega arith)
-ranges-turn w s p (suc k) l m a b h e =
-    let one : k ≡ suc k - 1 = omega arith in
+ranges-next w s p k l m a b e =
     write-append (range_text w (range_at s p)) (in_row (range_text w) (ranges s (p + 11) k)) (out_of l a)
     ∙ ap (write (in_row (range_text w) (ranges s (p + 11) k))) (sym e)
-    ∙ ap (λ (j : ℕ). write (in_row (range_text w) (ranges s (p + 11) j)) (out_of m b)) one
 
-pub ranges-done : (w s : Bytes) (p k : ℕ) (o : Out) → k ≤ 0 → write (in_row (range_text w) (ranges s p k)) o ≡ o
+pub ranges-turn : (w s : Bytes) (p n i : ℕ) (l m : Bytes) (a b : ℕ) → i < n → Writes (range_text w (range_at s (p + 11 * i))) l a m b
+    → write (in_row (range_text w) (ranges s (p + 11 * i) (n - i))) (out_of l a)
+    ≡ write (in_row (range_text w) (ranges s (p + 11 * (i + 1)) (n - (i + 1)))) (out_of m b)
+ranges-turn w s p n i l m a b h e =
+    let some : n - i ≡ suc (n - (i + 1)) = omega arith in
+    let next : p + 11 * i + 11 ≡ p + 11 * (i + 1) = omega arith in
+    ap (λ (k : ℕ). write (in_row (range_text w) (ranges s (p + 11 * i) k)) (out_of l a)) some
+    ∙ ranges-next w s (p + 11 * i) (n - (i + 1)) l m a b e
+    ∙ ap (λ (q : ℕ). write (in_row (range_text w) (ranges s q (n - (i + 1)))) (out_of m b)) next
+
+pub ranges-done : (w s : Bytes) (p n i : ℕ) (o : Out ℕ) → n ≤ i → write (in_row (range_text w) (ranges s p (n - i))) o ≡ o
 unfolding in_row ranges write
-ranges-done w s p zero o h = refl
-ranges-done w s p (suc k) o h = absurd (omega arith)
+ranges-done w s p n i o h = let none : n - i ≡ 0 = omega arith in rw none refl
 
 pub range-whole : (w s : Bytes) (p x y : ℕ) → x ≡ num32 s (p + 3) → y ≡ num32 s (p + 7)
     → w ++ (print_value (twos_complement x) ++ (bytes ".." ++ (print_value (twos_complement y) ++ 10 ∷ []))) ≡ range_text w (range_at s p)

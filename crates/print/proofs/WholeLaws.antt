@@ -1,4 +1,5 @@
 -- The whole text: from its parts, and in its buffer.
+use Rattle.std.specs.Prelude.{Err}
 use mathlib.Core.Path.{◌≡◌, refl, sym, ap, ◌∙◌}
 use mathlib.Core.List.{List, [], ◌∷◌, ◌++◌, append_assoc}
 use Prim.Native.Nat.{ℕ, ◌-◌, ◌≤◌, ◌<◌}
@@ -14,6 +15,8 @@ use Rattle.rules.specs.Encoding.{in_row}
 use Rattle.rules.specs.Product.{bytes, decimal}
 use Rattle.text.specs.Lines.{Line, locks_line, var_line, reg_line, thread_line}
 use Rattle.text.specs.Says.{each, statement_line_of, thread_lines, lines_of}
+use Rattle.refusal.specs.declared.Fault.{Fault}
+use Rattle.refusal.specs.Shape.{rule_of}
 use Rattle.reader.specs.declared.Index.{Index}
 use Rattle.reader.specs.Index.{index_of}
 use Rattle.reader.specs.Facts.{program_in, ranges}
@@ -100,27 +103,25 @@ module _ (t l m : Bytes) (n : ℕ) (e : Writes t l 0 m n) where
     | no r ↦ let past = writes-past t l m n e (omega arith) in let same = writes-length t l m 0 n e in absurd (omega arith)
   ]
 
-  pub text-full : length m < n → (r : ℕ) {x : Printing} → r ≡ number output_full → x ≡ refused_by (length m) r 0 → x ≡ written_into (length l) t
+  pub text-full : length m < n → {x : Printing} → x ≡ refused_by (length m) (number output_full) 0 → x ≡ written_into (length l) t
   unfolding written_into
-  text-full h k is be = elim (dec_le (length t) (length l)) [
+  text-full h be = elim (dec_le (length t) (length l)) [
     | yes r ↦ let ends = (fits-front t l m n e r).1 in let same = writes-length t l m 0 n e in absurd (omega arith)
     | no r ↦
         let over : length l < length t = omega arith in
         let same = writes-length t l m 0 n e in
-        rw (lt-leb (length t) (length l) over) (be ∙ (λ i. refused_by (same i) (is i) 0))
+        rw (lt-leb (length t) (length l) over) (be ∙ (λ i. refused_by (same i) (number output_full) 0))
   ]
 
 -- ---- the sheet
 
-module _ (s : Bytes) (i : Index) (is : i ≡ index_of (read_sheet s)) (room : ℕ) where
-  pub print-read : i.refusal ≡ 0 → written_into room (print (program_in s)) ≡ print_sheet room s
+module _ (s : Bytes) (room : ℕ) where
+  pub print-read : (i : Index) → Indexes s i → written_into room (print (program_in s)) ≡ print_sheet room s
   unfolding print_sheet printed
-  print-read ok =
-      let a = accepted (read_sheet s) is ok in
+  print-read i is =
+      let a = accepted (read_sheet s) is in
       ap (λ (g : Program). written_into room (print g)) (program-is s a.0 a.1 a.2) ∙ sym (ap (printed room) a.2)
 
-  pub print-refused : (i.refusal ≡ 0 → ⊥) → refused_by room i.refusal i.place ≡ print_sheet room s
+  pub print-refused : (f : Fault) → index_of (read_sheet s) ≡ Err f → refused_by room (number (rule_of f.refusal)) f.place ≡ print_sheet room s
   unfolding print_sheet printed
-  print-refused fault =
-      let r = rejected (read_sheet s) is fault in
-      ap (λ (n : ℕ). refused_by room n i.place) (sym r.2) ∙ sym (ap (printed room) r.1)
+  print-refused f is = sym (ap (printed room) (rejected (read_sheet s) is))

@@ -1,5 +1,5 @@
 -- The lines of a program by what the code has of it: a statement as it is decoded, ranges where they stand, and the index.
-use Rattle.std.specs.Prelude.{◌≡◌, ◌++◌, ℕ, ◌≤◌}
+use Rattle.std.specs.Prelude.{◌≡◌, ◌++◌, ℕ, ◌≤◌, Ok}
 use Rattle.rules.specs.Constants.{deepest}
 use Rattle.rules.specs.Interval.{Interval}
 use Rattle.rules.specs.Program as R
@@ -59,6 +59,5 @@ abbrev pub header_of : Index → Header
 header_of i = record { limit = i.limit.0; budget = i.budget; label_low = i.label_low.0; label_high = i.label_high.0 }
 
 -- of a sheet that reads
-pub record Indexes (s : Bytes) (i : Index) : Type 0 where
-  pub is : i ≡ index_of (read_sheet s)
-  pub reads : i.refusal ≡ 0
+abbrev pub Indexes : Bytes → Index → Type 0
+Indexes s i = index_of (read_sheet s) ≡ Ok i

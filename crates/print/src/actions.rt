@@ -43,8 +43,7 @@ fn print_assign(
 {
     let first = put_named(out, from, b"r", register);
     let second = put_bytes(out, first, b" := ");
-    let w = print_arith(s, at, end, DEEPEST, ANY_ARITH, out, second);
-    w.at
+    print_arith(s, at, end, DEEPEST, ANY_ARITH, out, second).at
 }
 
 fn print_branch(

@@ -18,23 +18,29 @@ use crate::output::refuse;
 use crate::whole::print_program;
 pub use output::Printing;
 use reader::{Index, read_sheet};
-use refusal::{Refusal, number_of};
-use writing::{put_three, put_zeros};
+use refusal::{Fault, Refusal};
+use writing::{put_front, put_zeros};
 
 // The text of a sheet that reads, with zeros behind it; all zeros where it does not fit.
 fn print_read(sheet: &[u8], index: Index, text: &mut [u8]) -> Printing
     requires { Indexes sheet.now index }
     ensures { printing_of result text.new ≡ Rule.written_into (length text.old) (Rule.print (program_in sheet.now)) }
 {
-    let end = print_program(sheet, index, text);
-    if text.len() < end {
-        return refuse(text, number_of(Refusal::OutputFull), 0);
+    let written = print_program(sheet, index, text);
+    if text.len() < written {
+        return refuse(
+            text,
+            Fault {
+                refusal: Refusal::OutputFull,
+                place: 0,
+            },
+        );
     }
-    put_zeros(text, end);
+    put_zeros(text, written);
     Printing {
         refusal: 0,
         place: 0,
-        written: end,
+        written,
     }
 }
 
@@ -44,11 +50,10 @@ pub fn print_sheet(sheet: &[u8], text: &mut [u8]) -> Printing
     ensures prints_well { PrintsWell (length text.old) sheet.now }
     ensures unchanged { Unchanged sheet.now sheet.now }
 {
-    let index = read_sheet(sheet);
-    if index.refusal != 0 {
-        return refuse(text, index.refusal, index.place);
+    match read_sheet(sheet) {
+        Ok(index) => print_read(sheet, index, text),
+        Err(fault) => refuse(text, fault),
     }
-    print_read(sheet, index, text)
 }
 
 // The same for callers in C and in Rust: the answer's three numbers (refusal, place, bytes written) go to the front of a lent array, and
@@ -61,6 +66,9 @@ pub extern "C" fn zumbeiry_print(sheet: &[u8], text: &mut [u8], answer: &mut [u6
     ensures unchanged { Unchanged sheet.now sheet.now }
 {
     let x = print_sheet(sheet, text);
-    put_three(answer, x.refusal, x.place, x.written);
+    put_front(
+        answer,
+        [u64::from(x.refusal), x.place as u64, x.written as u64],
+    );
     x.refusal
 }

@@ -1,10 +1,13 @@
 // What the call gives, and the lent buffer of a refusal: zeros.
 ghost use Rattle.std.specs.Prelude.{◌≡◌, length};
+ghost use Rattle.rules.specs.Refusal.{number};
+ghost use Rattle.refusal.specs.Shape.{rule_of};
 ghost use Rattle.print.specs.Shape.{printing_of, refused_by};
 
+use refusal::Fault;
 use writing::put_zeros;
 
-// Refusal 0: so many bytes were written. Another: the place in the sheet, and zeros.
+// The numbers that the C call writes. Refusal 0: so many bytes were written. Another: the place in the sheet, and zeros.
 #[derive(Clone, Copy)]
 pub struct Printing {
     pub refusal: u32,
@@ -12,13 +15,13 @@ pub struct Printing {
     pub written: usize,
 }
 
-pub(crate) fn refuse(text: &mut [u8], refusal: u32, place: usize) -> Printing
-    ensures { printing_of result text.new ≡ refused_by (length text.old) refusal place }
+pub(crate) fn refuse(text: &mut [u8], fault: Fault) -> Printing
+    ensures { printing_of result text.new ≡ refused_by (length text.old) (number (rule_of fault.refusal)) fault.place }
 {
     put_zeros(text, 0);
     Printing {
-        refusal,
-        place,
+        refusal: u32::from(fault.refusal),
+        place: fault.place,
         written: 0,
     }
 }

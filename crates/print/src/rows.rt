@@ -67,13 +67,9 @@ pub(crate) fn print_ranges(
     requires { place + 11 * n ≤ length s.now }
     ensures { Writes (in_row (range_text word.now) (ranges s.now place n)) out.old from out.new result }
 {
-    let mut p = place;
-    let mut left = n;
     let mut at = from;
-    while 0 < left {
-        at = print_range(s, p, word, out, at);
-        p += RANGE_SIZE;
-        left -= 1;
+    for i in 0..n {
+        at = print_range(s, place + RANGE_SIZE * i, word, out, at);
     }
     at
 }

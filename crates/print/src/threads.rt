@@ -14,15 +14,10 @@ fn print_statements(s: &[u8], index: Index, t: usize, out: &mut [u8], from: usiz
     requires { Indexes s.now index × (t < index.threads) }
     ensures { Writes (in_row statement_text (thread_in (program_in s.now) t).statements) out.old from out.new result }
 {
-    let entry = index.entries[t];
-    let places = index.places;
-    let n = entry.statements as usize;
-    let mut k: usize = 0;
     let mut at = from;
-    while k < n {
-        let place = places[t * MOST_STATEMENTS + k] as usize;
+    for k in 0..usize::from(index.entries[t].statements) {
+        let place = usize::from(index.places[t * MOST_STATEMENTS + k]);
         at = print_statement(s, place, out, at);
-        k += 1;
     }
     at
 }
@@ -33,10 +28,9 @@ fn print_thread(s: &[u8], index: Index, t: usize, out: &mut [u8], from: usize) -
     ensures { Writes (thread_text (thread_in (program_in s.now) t)) out.old from out.new result }
 {
     let entry = index.entries[t];
-    let place = entry.place as usize;
-    let registers = entry.registers as usize;
+    let place = usize::from(entry.place) + OPENING_SIZE;
     let first = put_bytes(out, from, b"thread\n");
-    let second = print_ranges(s, place + OPENING_SIZE, registers, b"reg ", out, first);
+    let second = print_ranges(s, place, usize::from(entry.registers), b"reg ", out, first);
     print_statements(s, index, t, out, second)
 }
 
@@ -44,12 +38,9 @@ pub(crate) fn print_threads(s: &[u8], index: Index, out: &mut [u8], from: usize)
     requires { Indexes s.now index }
     ensures { Writes (in_row thread_text (program_in s.now).threads) out.old from out.new result }
 {
-    let n = index.threads;
-    let mut t: usize = 0;
     let mut at = from;
-    while t < n {
+    for t in 0..index.threads {
         at = print_thread(s, index, t, out, at);
-        t += 1;
     }
     at
 }

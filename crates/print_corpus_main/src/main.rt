@@ -8,9 +8,10 @@
 
 mod entry;
 
-use crate::entry::{FRONT, Verdict, compare, front_of};
-use corpus::{both, counted, four, put, read_front};
+use crate::entry::{FRONT, Planted, Verdict, compare, front_of};
+use corpus::{counted, over_entries, put, read_front};
 use files::read_full;
+use std::io::Read;
 
 // Bytes of a sheet at most, of what is stated, and of what is lent.
 const SHEET: usize = 20000;
@@ -19,14 +20,9 @@ const STATED: usize = 98304;
 
 const ROOM: usize = 110000;
 
-// What is planted in an entry.
-const WRONG_NUMBER: u64 = 1;
-
-const WRONG_TEXT: u64 = 2;
-
 // How many entries are right, and how many of these differ; how many of them are printed, come back, and are refused with a byte less; how
-// many have a wrong number or a wrong text, and how many of these were noticed; and whether the reading ended before the last.
-#[derive(Clone, Copy)]
+// many have a wrong number or a wrong text, and how many of these were noticed.
+#[derive(Clone, Copy, Default)]
 struct Tally {
     sheets: u64,
     differ: u64,
@@ -37,107 +33,58 @@ struct Tally {
     numbers_noticed: u64,
     texts: u64,
     texts_noticed: u64,
-    ended: bool,
 }
 
-// Of two facts the one that is planted does not hold, the other does.
-fn noticed(planted: bool, wrong: bool, other: bool) -> bool {
-    both(both(planted, !wrong), other)
-}
-
-fn added(t: Tally, v: Verdict, planted: u64) -> Tally {
-    let right = planted == 0;
-    let number = planted == WRONG_NUMBER;
-    let text = planted == WRONG_TEXT;
+// A planted entry is noticed where the fact that is planted does not hold, and the other does.
+fn added(t: Tally, v: Verdict, planted: Planted) -> Tally {
+    let right = planted == Planted::Nothing;
+    let number = planted == Planted::Number;
+    let text = planted == Planted::Text;
     Tally {
         sheets: counted(t.sheets, right),
-        differ: counted(t.differ, both(right, !both(v.numbers, v.text))),
-        printed: counted(t.printed, both(right, v.printed)),
-        back: counted(t.back, both(right, v.back)),
-        less: counted(t.less, both(right, v.less)),
+        differ: counted(t.differ, right && !(v.numbers && v.text)),
+        printed: counted(t.printed, right && v.tried.is_some()),
+        back: counted(t.back, right && v.tried.is_some_and(|x| x.back)),
+        less: counted(t.less, right && v.tried.is_some_and(|x| x.less)),
         numbers: counted(t.numbers, number),
-        numbers_noticed: counted(t.numbers_noticed, noticed(number, v.numbers, v.text)),
+        numbers_noticed: counted(t.numbers_noticed, number && !v.numbers && v.text),
         texts: counted(t.texts, text),
-        texts_noticed: counted(t.texts_noticed, noticed(text, v.text, v.numbers)),
-        ended: t.ended,
+        texts_noticed: counted(t.texts_noticed, text && !v.text && v.numbers),
     }
 }
 
-fn ended(mut t: Tally) -> Tally {
-    t.ended = true;
-    t
-}
-
-// One entry more. One that the corpus does not hold whole ends the reading.
-fn compare_entry(
-    rt: HostRuntime,
+// The count with one entry more; none where the corpus does not hold it whole, or where more is to be lent than there is.
+fn compare_next<R: Read>(
+    from: &mut R,
     t: Tally,
     sheet: &mut [u8],
     stated: &mut [u8],
     text: &mut [u8],
     buffer: &mut [u8],
-) -> Tally {
+) -> Option<Tally> {
     let mut front = [0u8; FRONT];
-    if read_full(&mut rt.stdin(), &mut front) < FRONT {
-        return ended(t);
+    if read_full(from, &mut front) < FRONT {
+        return None;
     }
     let f = front_of(&front);
-    let n = f.sheet;
-    let m = f.stated;
-    let room = f.room;
-    if !read_front(&mut rt.stdin(), sheet, n) {
-        return ended(t);
+    if !read_front(from, sheet, f.sheet) || !read_front(from, stated, f.stated) {
+        return None;
     }
-    if !read_front(&mut rt.stdin(), stated, m) {
-        return ended(t);
-    }
-    if text.len() < room {
-        return ended(t);
-    }
-    let v = compare(f, &sheet[..n], &stated[..m], &mut text[..room], buffer);
-    added(t, v, f.planted)
-}
-
-fn compare_all(
-    rt: HostRuntime,
-    count: u64,
-    sheet: &mut [u8],
-    stated: &mut [u8],
-    text: &mut [u8],
-    buffer: &mut [u8],
-) -> Tally {
-    let mut t = Tally {
-        sheets: 0,
-        differ: 0,
-        printed: 0,
-        back: 0,
-        less: 0,
-        numbers: 0,
-        numbers_noticed: 0,
-        texts: 0,
-        texts_noticed: 0,
-        ended: false,
-    };
-    for _ in 0..count {
-        if t.ended {
-            return t;
-        }
-        t = compare_entry(rt, t, sheet, stated, text, buffer);
-    }
-    t
+    let lent = text.get_mut(..f.room)?;
+    let v = compare(f, &sheet[..f.sheet], &stated[..f.stated], lent, buffer);
+    Some(added(t, v, f.planted))
 }
 
 fn main(rt: HostRuntime) {
-    let mut count = [0u8; 4];
-    if read_full(&mut rt.stdin(), &mut count) < 4 {
-        return;
-    }
     let mut sheet = [0u8; SHEET];
     let mut stated = [0u8; STATED];
     let mut text = [0u8; ROOM];
     let mut buffer = [0u8; SHEET];
-    let n = four(count[0], count[1], count[2], count[3]);
-    let t = compare_all(rt, n, &mut sheet, &mut stated, &mut text, &mut buffer);
+    let Some(t) = over_entries(&mut rt.stdin(), Tally::default(), |from, t| {
+        compare_next(from, t, &mut sheet, &mut stated, &mut text, &mut buffer)
+    }) else {
+        return;
+    };
     put(rt, t.sheets, b" sheets compared, ");
     put(rt, t.differ, b" differ; ");
     put(rt, t.printed, b" printed, ");

@@ -1,7 +1,7 @@
 -- What holds of a sheet that reads and of its index: `accepted`, `rejected`, `program-facts`, `index-facts`, the facts of a
 -- thread and of a statement by number, and what `statement_at` asks of a place of the index. No code in it: later layers
 -- cite these from the promise of `read_sheet`.
-use Rattle.std.specs.Prelude.{if◌then◌else◌}
+use Rattle.std.specs.Prelude.{if◌then◌else◌, Ok, Err}
 use mathlib.Core.Path.{◌≡◌, refl, sym, ap, subst, ◌∙◌}
 use mathlib.Core.Bool.{Bool, true, false, not}
 use mathlib.Core.List.{List, [], ◌∷◌, ◌++◌}
@@ -12,15 +12,17 @@ use lib.ListN.{length, get_or, length-append}
 use borrow.Author.Tests.{leb-true, eqb-true, ltb-true, ltb-false}
 use Rattle.rules.specs.Base.{Each, nil}
 use Rattle.rules.specs.Constants.{longest_sheet, most_locks, most_threads, most_statements}
-use Rattle.rules.specs.Refusal as R
-use Rattle.rules.specs.Refusal.{number, short, out_of_turn, too_long}
+use Rattle.rules.specs.Refusal.{short, out_of_turn, too_long}
 use Rattle.rules.specs.Program.{is_halt, Thread, Header, Program, no_statement, no_thread}
 use Rattle.rules.specs.Format.{Bytes, byte, num32, Got, bad, got, wrong, more, done, has_head, header_fits, read_header, read_locks, variable_here, read_variables, read_thread, thread_here, read_threads, read_sheet}
-use Rattle.rules.proofs.Refusal.{positive}
 use Rattle.rules.proofs.Base.{each_map, each-get}
 use Rattle.rules.proofs.Format.{If, many-if, variables-ordered}
+use Rattle.refusal.specs.declared.Fault.{Fault}
+use Rattle.refusal.specs.Shape.{rule_of, fault_at}
+use Rattle.field.specs.Ticks.{tick}
+use Rattle.field.proofs.outcome.Laws.{fault-is}
 use Rattle.reader.specs.declared.Index.{Index}
-use Rattle.reader.specs.Index.{lay_places, no_places, refused_index, index_of}
+use Rattle.reader.specs.Index.{lay_places, no_places, entries_of, index_of}
 use Rattle.reader.specs.Facts.{program_of, program_in, thread_in, statement_in, names_in, ranges, Ordered, Targets, StatementFacts, ThreadFacts, ProgramFacts, IndexFacts}
 use Rattle.rules.specs.Fits.{HeaderFits}
 use Rattle.rules.proofs.FieldBytes.{header-fits}
@@ -147,12 +149,24 @@ module _ {s : Bytes} {g : Program} (f : ProgramFacts s g) (t : ℕ) (r : t < len
 
 -- ---- the index
 
-facts-of-got : (s : Bytes) (g : Program) (e : ℕ) → ProgramFacts s g → IndexFacts s g (index_of (got g e))
-unfolding index_of
-facts-of-got s g e f =
+-- the index of a program
+abbrev index_in : Program → Index
+index_in g = record {
+  limit = tick g.header.limit;
+  budget = g.header.budget;
+  label_low = tick g.header.label_low;
+  label_high = tick g.header.label_high;
+  locks = g.locks;
+  variables = length g.vars;
+  threads = length g.threads;
+  entries = entries_of g.threads;
+  places = lay_places 0 g.threads no_places;
+}
+
+facts-of-got : (s : Bytes) (g : Program) → ProgramFacts s g → IndexFacts s g (index_in g)
+facts-of-got s g f =
     let n = f.threads_few in
     record {
-      refusal = refl;
       limit = refl;
       budget = refl;
       label_low_lem = refl;
@@ -167,8 +181,12 @@ facts-of-got s g e f =
           ∙ lay_at 0 g.threads no_places t k (each_map (λ x a. a.few) f.threads) r b (omega arith);
     }
 
-pub index-facts : {s : Bytes} {i : Index} (g : Program) (e : ℕ) → i ≡ index_of (read_sheet s) → read_sheet s ≡ got g e → IndexFacts s g i
-index-facts {s} g e h q = subst (IndexFacts s g) (sym (h ∙ ap index_of q)) (facts-of-got s g e (program-facts s g e q))
+pub index-facts : {s : Bytes} {i : Index} (g : Program) (e : ℕ) → index_of (read_sheet s) ≡ Ok i → read_sheet s ≡ got g e → IndexFacts s g i
+unfolding index_of
+index-facts {s} {i} g e h q =
+    let same : index_of (got g e) ≡ Ok i = sym (ap index_of q) ∙ h in
+    let w : index_in g ≡ i = cc in
+    subst (IndexFacts s g) w (facts-of-got s g (program-facts s g e q))
 
 -- statement k of thread t, by the place that the index has for it: what `statement_at` asks
 module _ {s : Bytes} {g : Program} {i : Index} (f : ProgramFacts s g) (x : IndexFacts s g i)
@@ -176,14 +194,14 @@ module _ {s : Bytes} {g : Program} {i : Index} (f : ProgramFacts s g) (x : Index
   pub place-head : get_or i.places (t * most_statements + k) 0 + 8 ≤ length s
   place-head = subst (λ (p : ℕ). p + 8 ≤ length s) (sym (x.places t k r b)) (statement-in f t r k b).head
 
--- refusal 0: the sheet reads as a program
-pub accepted : {i : Index} (G : Got Program) → i ≡ index_of G → i.refusal ≡ 0 → (g : Program) × (e : ℕ) × (G ≡ got g e)
-unfolding index_of refused_index
-accepted (bad r p) h z = absurd (positive r (ap (λ (x : Index). x.refusal) (sym h) ∙ z))
-accepted (got g e) h z = (g, e, refl)
+-- there is an index: the sheet reads as a program
+pub accepted : {i : Index} (G : Got Program) → index_of G ≡ Ok i → (g : Program) × (e : ℕ) × (G ≡ got g e)
+unfolding index_of
+accepted (bad r p) h = absurd (cc)
+accepted (got g e) h = (g, e, refl)
 
--- another: the rules' refusal has that number and that place
-pub rejected : {i : Index} (G : Got Program) → i ≡ index_of G → (i.refusal ≡ 0 → ⊥) → (r : R.Refusal) × (G ≡ bad r i.place) × (number r ≡ i.refusal)
-unfolding index_of refused_index
-rejected (bad r p) h z = (r, ap (bad r) (ap (λ (x : Index). x.place) (sym h)), ap (λ (x : Index). x.refusal) (sym h))
-rejected (got g e) h z = absurd (z (ap (λ (x : Index). x.refusal) h))
+-- there is none: the rules give that refusal at that place
+pub rejected : {f : Fault} (G : Got Program) → index_of G ≡ Err f → G ≡ bad (rule_of f.refusal) f.place
+unfolding index_of
+rejected {f} (bad r p) h = let e : f ≡ fault_at r p = cc in let w = fault-is r p e in λ j. bad (w.0 j) (w.1 j)
+rejected (got g e) h = absurd (cc)

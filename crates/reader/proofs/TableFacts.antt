@@ -10,7 +10,7 @@ use Rattle.rules.specs.Base.{Each, ◌&◌}
 use Rattle.rules.specs.Constants.{most_threads, most_statements}
 use Rattle.rules.specs.Program.{Statement, Thread, no_statement, no_thread}
 use Rattle.reader.specs.Index.{places_of, lay_places, no_entry, entry_of, entries_of}
-use Rattle.reader.proofs.Filled.{map-length}
+use Rattle.std.proofs.lemmas.List.{length-map}
 
 module _ {B : Type 0} (d : B) where
   sets_below : (l : List B) (i : ℕ) (vs : List B) (j : ℕ) → j < i → get_or (sets l i vs) j d ≡ get_or l j d
@@ -48,7 +48,7 @@ lay_at t (x ∷ xs) l zero k (a & b) h i r =
     let e : t + 0 ≡ t = omega arith in
     let m = suc-mul t most_statements in
     let z = row-end t (length xs) most_statements in
-    let c = map-length place x.statements in
+    let c = length-map x.statements place in
     let w = sets l (t * most_statements) (places_of x.statements) in
     ap (λ (j : ℕ). get_or (lay_places (suc t) xs w) (j * most_statements + k) 0) e
     ∙ lay-below (suc t) xs w (t * most_statements + k) (omega arith)
@@ -65,7 +65,7 @@ lay_at t (x ∷ xs) l (suc u) k (a & b) h i r =
 pub entry_at : (ts : List Thread) (t : ℕ) → length ts ≤ most_threads → t < length ts → get_or (entries_of ts) t no_entry ≡ entry_of (get_or ts t no_thread)
 entry_at ts t few r =
     let e : t ≡ 0 + t = omega arith in
-    let n = map-length entry_of ts in
+    let n = length-map ts entry_of in
     ap (λ (j : ℕ). get_or (entries_of ts) j no_entry) e
     ∙ sets-in no_entry (replicate most_threads no_entry) 0 (map entry_of ts) t (omega arith) (omega arith)
     ∙ get_or-map entry_of ts t no_thread

@@ -1,2 +1,2 @@
--- What the proof of `read_statements` cites.
+-- What the proof of `places` cites.
 pub mod Laws

@@ -119,7 +119,6 @@ pub record ProgramFacts (s : Bytes) (g : Program) : Type 0 where
   pub threads : Each (ThreadFacts (length g.vars) g.locks s) g.threads
 
 pub record IndexFacts (s : Bytes) (g : Program) (i : Index) : Type 0 where
-  pub refusal : i.refusal ≡ 0
   pub limit : i.limit.0 ≡ g.header.limit
   pub budget : i.budget ≡ g.header.budget
   pub label_low_lem : i.label_low.0 ≡ g.header.label_low

@@ -1,18 +1,15 @@
 -- The index of a sheet: what the code gives of a program, and the tables it is made from.
-use Rattle.std.specs.Prelude.{◌≡◌, Bool, true, List, [], ◌∷◌, map, ℕ, suc, ◌+◌, ◌*◌, ◌≤◌, leb, eqb, ltb, length, replicate, if◌then◌else◌}
+use Rattle.std.specs.Prelude.{◌≡◌, Bool, true, List, [], ◌∷◌, map, ℕ, suc, ◌+◌, ◌*◌, ◌≤◌, leb, eqb, ltb, length, replicate, if◌then◌else◌, Result, Ok, Err}
 use Rattle.std.proofs.lemmas.List.Edits.{sets}
 use Rattle.rules.specs.Constants.{most_threads, most_statements}
-use Rattle.rules.specs.Refusal.{Refusal, number, too_long}
+use Rattle.rules.specs.Refusal.{no_such_name, no_halt, too_long}
 use Rattle.rules.specs.Program.{Statement, Thread, Program}
 use Rattle.rules.specs.Format.{Bytes, byte, Got, bad, got, need, read_fields}
-use Rattle.refusal.specs.declared.Refusal.TheVariants.{NoSuchName, NoHalt}
-use Rattle.refusal.specs.Shape.{refusal_of}
+use Rattle.refusal.specs.declared.Fault.{Fault}
+use Rattle.refusal.specs.Shape.{fault_at}
 use Rattle.field.specs.Ticks.{tick}
-use Rattle.field.specs.declared.outcome.End.{End}
-use Rattle.field.specs.declared.outcome.End.TheVariants.{At, Refused}
 use Rattle.field.specs.declared.fields.Header.{Header}
-use Rattle.field.specs.declared.outcome.Count.{Count}
-use Rattle.field.specs.declared.outcome.Count.TheVariants.{Found, Failed}
+use Rattle.field.specs.declared.outcome.Counted.{Counted}
 use Rattle.reader.specs.declared.threads.ThreadEntry.{ThreadEntry}
 use Rattle.reader.specs.declared.threads.Threads.{Threads}
 use Rattle.reader.specs.declared.Index.{Index}
@@ -31,34 +28,31 @@ read_up_to most s = need (leb (length s) most) too_long 0 (read_fields s)
 unfoldable pub target_at : Bytes → ℕ → ℕ → Bool
 target_at s n p = if eqb (byte s (p + 7)) 3 then ltb (byte s (p + 8)) n else true
 
-unfoldable pub targets_at : Bytes → ℕ → List ℕ → End → End
-targets_at s n [] g = g
-targets_at s n (p ∷ ps) g = if target_at s n p then targets_at s n ps g else Refused NoSuchName p
+-- every statement's target is below n: nothing, or the first that is not
+unfoldable pub targets_at : Bytes → ℕ → List ℕ → Result (Unit {0}) Fault
+targets_at s n [] = Ok tt
+targets_at s n (p ∷ ps) = if target_at s n p then targets_at s n ps else Err (fault_at no_such_name p)
 
-unfoldable pub last_at : Bytes → List ℕ → End → End
-last_at s [] g = g
-last_at s (p ∷ []) g = if eqb (byte s (p + 7)) 0 then g else Refused NoHalt p
-last_at s (p ∷ q ∷ qs) g = last_at s (q ∷ qs) g
+-- the last statement is halt
+unfoldable pub last_at : Bytes → List ℕ → Result (Unit {0}) Fault
+last_at s [] = Ok tt
+last_at s (p ∷ []) = if eqb (byte s (p + 7)) 0 then Ok tt else Err (fault_at no_halt p)
+last_at s (p ∷ q ∷ qs) = last_at s (q ∷ qs)
 
 -- ---- a thread's statements: x is the code's answer, and the table l became m
 
 abbrev pub places_of : List Statement → List ℕ
 places_of xs = map (λ (x : Statement). x.place) xs
 
--- the places stand in the table from `base` on
-unfoldable pub StatementsRead : Got (List Statement) → ℕ → List ℕ → List ℕ → Count → Type 0
-StatementsRead (bad r p) base l m x = x ≡ Failed (refusal_of r) p
-StatementsRead (got xs q) base l m x = (x ≡ Found (length xs) q) × (m ≡ sets l base (places_of xs)) × (length xs ≤ most_statements)
+-- the places stand at the front of the table
+abbrev pub StatementsRead : Got (List Statement) → List ℕ → List ℕ → Result Counted Fault → Type 0
+StatementsRead (bad r p) l m x = x ≡ Err (fault_at r p)
+StatementsRead (got xs q) l m x = (x ≡ Ok (record { count = length xs; end = q })) × (m ≡ sets l 0 (places_of xs)) × (length xs ≤ most_statements)
 
--- a reading that ended in a refusal, where a count is due
-unfoldable pub failure : End → Count
-failure (At q) = Found 0 q
-failure (Refused r p) = Failed r p
-
-unfoldable pub ThreadRead : Got Thread → ℕ → List ℕ → List ℕ → Count → Type 0
-ThreadRead (bad r p) base l m x = x ≡ Failed (refusal_of r) p
-ThreadRead (got t q) base l m x =
-    (x ≡ Found (length t.statements) q) × (m ≡ sets l base (places_of t.statements)) × (length t.statements ≤ most_statements)
+abbrev pub ThreadRead : Got Thread → List ℕ → List ℕ → Result Counted Fault → Type 0
+ThreadRead (bad r p) l m x = x ≡ Err (fault_at r p)
+ThreadRead (got t q) l m x =
+    (x ≡ Ok (record { count = length t.statements; end = q })) × (m ≡ sets l 0 (places_of t.statements)) × (length t.statements ≤ most_statements)
 
 -- ---- all threads
 
@@ -84,34 +78,16 @@ entries_of ts = sets (replicate most_threads no_entry) 0 (map entry_of ts)
 abbrev pub no_places : List ℕ
 no_places = replicate (most_threads * most_statements) 0
 
-unfoldable pub ThreadsRead : Got (List Thread) → List ℕ → List ℕ → Threads → Type 0
-ThreadsRead (bad r p) l m x = x.end ≡ Failed (refusal_of r) p
-ThreadsRead (got ts q) l m x = (x.end ≡ Found (length ts) q) × (m ≡ lay_places 0 ts l) × (x.entries ≡ entries_of ts)
+abbrev pub ThreadsRead : Got (List Thread) → List ℕ → List ℕ → Result Threads Fault → Type 0
+ThreadsRead (bad r p) l m x = x ≡ Err (fault_at r p)
+ThreadsRead (got ts q) l m x = (x ≡ Ok (record { count = length ts; entries = entries_of ts })) × (m ≡ lay_places 0 ts l)
 
 -- ---- the index
 
--- a refusal has its number and its place, and zeros for the rest
-unfoldable pub refused_index : Refusal → ℕ → Index
-refused_index r p = record {
-  refusal = number r;
-  place = p;
-  limit = tick 0;
-  budget = 0;
-  label_low = tick 0;
-  label_high = tick 0;
-  locks = 0;
-  variables = 0;
-  threads = 0;
-  entries = entries_of [];
-  places = no_places;
-}
-
--- a program has refusal 0 and place 0
-unfoldable pub index_of : Got Program → Index
-index_of (bad r p) = refused_index r p
-index_of (got g e) = record {
-  refusal = 0;
-  place = 0;
+-- of a program; a refusal has its place
+unfoldable pub index_of : Got Program → Result Index Fault
+index_of (bad r p) = Err (fault_at r p)
+index_of (got g e) = Ok (record {
   limit = tick g.header.limit;
   budget = g.header.budget;
   label_low = tick g.header.label_low;
@@ -121,14 +97,12 @@ index_of (got g e) = record {
   threads = length g.threads;
   entries = entries_of g.threads;
   places = lay_places 0 g.threads no_places;
-}
+})
 
 -- the same from what the code read before the threads
-unfoldable pub index_with : Header → ℕ → ℕ → Got (List Thread) → Index
-index_with h locks vars (bad r p) = refused_index r p
-index_with h locks vars (got ts e) = record {
-  refusal = 0;
-  place = 0;
+abbrev pub index_with : Header → ℕ → ℕ → Got (List Thread) → Result Index Fault
+index_with h locks vars (bad r p) = Err (fault_at r p)
+index_with h locks vars (got ts e) = Ok (record {
   limit = h.limit;
   budget = h.budget;
   label_low = h.label_low;
@@ -138,4 +112,4 @@ index_with h locks vars (got ts e) = record {
   threads = length ts;
   entries = entries_of ts;
   places = lay_places 0 ts no_places;
-}
+})

@@ -1,51 +1,49 @@
--- The parts of a sheet in their order: what was read so far, and the reader moved on behind each. Behind all of them stands the
--- index of the sheet.
-use Rattle.std.specs.Prelude.{List, ℕ, length}
+-- The parts of a sheet before its threads: what the code keeps of each, and the reader moved on behind it.
+use Rattle.std.specs.Prelude.{List, ℕ, length, Result, Ok, Err}
 use Rattle.rules.specs.Interval.{Interval}
 use Rattle.rules.specs.Format.{Bytes, Got, bad, got, read_locks, read_variables, read_threads}
-use Rattle.refusal.specs.Shape.{refusal_of, rule_of}
+use Rattle.refusal.specs.declared.Fault.{Fault}
+use Rattle.refusal.specs.Shape.{fault_at}
 use Rattle.field.specs.Header.{header_of, header_at}
-use Rattle.reader.specs.declared.parts.Progress.{Progress}
-use Rattle.reader.specs.declared.parts.Progress.TheVariants.{Read, Refused}
-use Rattle.reader.specs.declared.parts.Part.{Part}
+use Rattle.field.specs.declared.fields.Header.{Header}
 use Rattle.reader.specs.declared.held.Reader.{Reader}
-use Rattle.reader.specs.declared.held.ReadOn.{ReadOn}
 use Rattle.reader.specs.declared.Index.{Index}
-use Rattle.reader.specs.Index.{refused_index, index_with}
+use Rattle.reader.specs.Index.{index_with}
 
--- ---- a part, from what was read before it: a refusal is passed on
+-- ---- a part
 
--- what was read so far with this part, and the place behind it; or its refusal, and the place at fault
-unfoldable pub part_of : {A : Type 0} → (A → Progress) → Got A → Part
-part_of f (bad r p) = record { progress = Refused (refusal_of r); at = p }
-part_of f (got a q) = record { progress = f a; at = q }
+-- what f keeps of what was read, and the place behind it; or the refusal and its place
+abbrev pub part_of : {A B : Type 0} → (A → B) → Got A → Result (B × ℕ) Fault
+part_of f (bad r p) = Err (fault_at r p)
+part_of f (got a q) = Ok (f a, q)
 
-unfoldable pub header_part : Bytes → ℕ → Part
-header_part s at = part_of (λ h. Read (header_of h) 0 0) (header_at s at)
+abbrev pub header_part : Bytes → ℕ → Result (Header × ℕ) Fault
+header_part s at = part_of header_of (header_at s at)
 
-unfoldable pub locks_part : Bytes → ℕ → Progress → Part
-locks_part s at (Refused r) = record { progress = Refused r; at = at }
-locks_part s at (Read h locks vars) = part_of (λ k. Read h k vars) (read_locks s at)
+abbrev pub locks_part : Bytes → ℕ → Result (ℕ × ℕ) Fault
+locks_part s at = part_of (λ k. k) (read_locks s at)
 
-unfoldable pub variables_part : Bytes → ℕ → Progress → Part
-variables_part s at (Refused r) = record { progress = Refused r; at = at }
-variables_part s at (Read h locks vars) = part_of (λ (vs : List Interval). Read h locks (length vs)) (read_variables s at)
-
--- the threads are the rest
-unfoldable pub index_from : Bytes → ℕ → Progress → Index
-index_from s at (Refused r) = refused_index (rule_of r) at
-index_from s at (Read h locks vars) = index_with h locks vars (read_threads vars locks s at)
+abbrev pub variables_part : Bytes → ℕ → Result (ℕ × ℕ) Fault
+variables_part s at = part_of (λ (vs : List Interval). length vs) (read_variables s at)
 
 -- ---- by a reader
 
 -- what a part gives, with the reader moved on
-abbrev pub read_on : Reader → Part → ReadOn
-read_on r p = record { progress = p.progress; rest = record { sheet = r.sheet; at = p.at } }
+abbrev pub read_on : {B : Type 0} → Reader → Result (B × ℕ) Fault → Result (B × Reader) Fault
+read_on r (Ok (b, q)) = Ok (b, record { sheet = r.sheet; at = q })
+read_on r (Err f) = Err f
 
--- all parts, each from where the one before it ended
-unfoldable pub walked_index : Bytes → Index
+-- ---- the whole
+
+-- what follows on what was read, from the place behind it; a refusal is passed on
+abbrev pub onward : {B C : Type 0} → Result (B × ℕ) Fault → (B → ℕ → Result C Fault) → Result C Fault
+onward (Err f) g = Err f
+onward (Ok (b, q)) g = g b q
+
+-- all parts, each from where the one before it ended; behind them stand the threads
+unfoldable pub walked_index : Bytes → Result Index Fault
 walked_index s =
-    let a = header_part s 0 in
-    let b = locks_part s a.at a.progress in
-    let c = variables_part s b.at b.progress in
-    index_from s c.at c.progress
+    onward (header_part s 0) (λ h p.
+    onward (locks_part s p) (λ k q.
+    onward (variables_part s q) (λ n r.
+    index_with h k n (read_threads n k s r))))

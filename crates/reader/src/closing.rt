@@ -1,52 +1,44 @@
 // Closing a thread, from the places of its statements: the last is halt, and every target stands in the thread.
-ghost use Rattle.std.specs.Prelude.{◌≡◌, ◌+◌, ◌≤◌, ◌<◌, length};
-ghost use Rattle.std.proofs.Math.Seq.{slice};
+ghost use Rattle.std.specs.Prelude.{◌≡◌, ◌<◌, length};
 ghost use Rattle.reader.specs.Index.{target_at, targets_at, last_at};
 
-use field::{End, byte_at};
-use refusal::Refusal;
+use field::{byte_at, need};
+use refusal::{Fault, Refusal};
+
+// 01's codes of halt and of if.
+const HALT: usize = 0;
+
+const IF: usize = 3;
 
 // The statement at p is no if, or its target is below n.
+#[tactic(auto, unfolding(crate::specs::Index::target_at))]
 fn target_fits(s: &[u8], n: usize, p: usize) -> bool
     requires { p < 65536 }
     ensures { result ≡ target_at s.now n p }
 {
-    let c = byte_at(s, p + 7);
-    if c == 3 {
-        let t = byte_at(s, p + 8);
-        return t < n;
-    }
-    true
+    byte_at(s, p + 7) != IF || byte_at(s, p + 8) < n
 }
 
-fn targets_end(s: &[u8], places: &[u16], base: usize, n: usize, q: usize) -> End
-    requires { base + n ≤ length places.now }
-    ensures { result ≡ targets_at s.now n (slice base (base + n) places.now) (End.At q) }
+// Each target is one of the thread's statements.
+#[tactic(auto, using(crate::proofs::closing::Laws::targets_from), unfolding(crate::specs::Index::targets_at))]
+pub(crate) fn targets_fit(s: &[u8], places: &[u16]) -> Result<(), Fault>
+    ensures { result ≡ targets_at s.now (length places.now) places.now }
 {
-    let mut k: usize = 0;
-    while k < n {
-        let p = places[base + k] as usize;
-        if target_fits(s, n, p) {
-            k += 1;
-        } else {
-            return End::Refused(Refusal::NoSuchName, p);
-        }
+    for place in places {
+        let p = usize::from(*place);
+        need(target_fits(s, places.len(), p), Refusal::NoSuchName, p)?;
     }
-    End::At(q)
+    Ok(())
 }
 
-// The last of n statements is halt, then their targets; q is the place behind them.
-pub(crate) fn close_end(s: &[u8], places: &[u16], base: usize, n: usize, q: usize) -> End
-    requires { base + n ≤ length places.now }
-    ensures { result ≡ last_at s.now (slice base (base + n) places.now) (targets_at s.now n (slice base (base + n) places.now) (End.At q)) }
+// The last statement, where there is one, is halt.
+#[tactic(auto, using(crate::proofs::closing::Laws::last_is, crate::proofs::closing::Laws::last_none))]
+pub(crate) fn last_halts(s: &[u8], places: &[u16]) -> Result<(), Fault>
+    ensures { result ≡ last_at s.now places.now }
 {
-    if n == 0 {
-        return targets_end(s, places, base, n, q);
+    if let Some(last) = places.last() {
+        let p = usize::from(*last);
+        need(byte_at(s, p + 7) == HALT, Refusal::NoHalt, p)?;
     }
-    let p = places[base + n - 1] as usize;
-    let c = byte_at(s, p + 7);
-    if c == 0 {
-        return targets_end(s, places, base, n, q);
-    }
-    End::Refused(Refusal::NoHalt, p)
+    Ok(())
 }

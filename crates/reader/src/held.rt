@@ -1,12 +1,17 @@
 // The reader that holds the sheet's bytes and its place in them, and the walk of a sheet by it.
-// Functions over a reader are thin: each takes it apart, calls one that is given the bytes and the place, and hands it back moved
-// on. Tests and loops stand in the functions that they call.
-ghost use Rattle.std.specs.Prelude.{◌≡◌, ◌≤◌, length};
-ghost use Rattle.reader.specs.Index.{greatest_place};
-ghost use Rattle.reader.specs.Walk.{header_part, locks_part, variables_part, index_from, read_on, walked_index};
+// Functions over a reader are thin: each calls one that is given the bytes and the place, and hands the reader back moved on.
+// Tests and loops stand in the functions that they call.
+#![tactic(auto, unfolding(crate::proofs::Opened::walk))]
 
-use crate::parts::{Progress, header_part, locks_part, variables_part};
-use crate::{Index, index_from};
+ghost use Rattle.std.specs.Prelude.{◌≡◌, ◌≤◌, length};
+ghost use Rattle.rules.specs.Format.{read_fields, read_threads};
+ghost use Rattle.reader.specs.Index.{greatest_place, index_with, index_of};
+ghost use Rattle.reader.specs.Walk.{header_part, locks_part, variables_part, read_on};
+
+use crate::parts::{header_part, locks_part, variables_part};
+use crate::{Index, indexed};
+use field::Header;
+use refusal::Fault;
 
 #[derive(Clone, Copy)]
 struct Reader<'a> {
@@ -14,67 +19,44 @@ struct Reader<'a> {
     at: usize,
 }
 
-// What was read so far, and the reader moved on behind it; of a refusal, to the place at fault.
-#[derive(Clone, Copy)]
-struct ReadOn<'a> {
-    progress: Progress,
-    rest: Reader<'a>,
-}
-
-fn next_header<'a>(r: Reader<'a>) -> ReadOn<'a>
-    ensures { result ≡ read_on r.entry (header_part r.entry.sheet.now r.entry.at) }
-{
-    let p = header_part(r.sheet, r.at);
-    ReadOn {
-        progress: p.progress,
-        rest: Reader {
-            sheet: r.sheet,
-            at: p.at,
-        },
+impl<'a> Reader<'a> {
+    fn header(self) -> Result<(Header, Reader<'a>), Fault>
+        ensures { result ≡ read_on self.entry (header_part self.entry.sheet.now self.entry.at) }
+    {
+        let (header, at) = header_part(self.sheet, self.at)?;
+        Ok((header, Reader { at, ..self }))
     }
-}
 
-fn next_locks<'a>(r: Reader<'a>, progress: Progress) -> ReadOn<'a>
-    ensures { result ≡ read_on r.entry (locks_part r.entry.sheet.now r.entry.at progress) }
-{
-    let p = locks_part(r.sheet, r.at, progress);
-    ReadOn {
-        progress: p.progress,
-        rest: Reader {
-            sheet: r.sheet,
-            at: p.at,
-        },
+    fn locks(self) -> Result<(usize, Reader<'a>), Fault>
+        ensures { result ≡ read_on self.entry (locks_part self.entry.sheet.now self.entry.at) }
+    {
+        let (locks, at) = locks_part(self.sheet, self.at)?;
+        Ok((locks, Reader { at, ..self }))
     }
-}
 
-fn next_variables<'a>(r: Reader<'a>, progress: Progress) -> ReadOn<'a>
-    ensures { result ≡ read_on r.entry (variables_part r.entry.sheet.now r.entry.at progress) }
-{
-    let p = variables_part(r.sheet, r.at, progress);
-    ReadOn {
-        progress: p.progress,
-        rest: Reader {
-            sheet: r.sheet,
-            at: p.at,
-        },
+    fn variables(self) -> Result<(usize, Reader<'a>), Fault>
+        ensures { result ≡ read_on self.entry (variables_part self.entry.sheet.now self.entry.at) }
+    {
+        let (variables, at) = variables_part(self.sheet, self.at)?;
+        Ok((variables, Reader { at, ..self }))
     }
-}
 
-// The threads are the rest of the sheet: with them the index is whole.
-fn rest_threads<'a>(r: Reader<'a>, progress: Progress) -> Index
-    requires { length r.sheet.now ≤ greatest_place }
-    ensures { result ≡ index_from r.entry.sheet.now r.entry.at progress }
-{
-    index_from(r.sheet, r.at, progress)
+    // The threads are the rest of the sheet: with them the index is whole.
+    fn threads(self, header: Header, locks: usize, variables: usize) -> Result<Index, Fault>
+        requires { length self.sheet.now ≤ greatest_place }
+        ensures { result ≡ index_with header locks variables (read_threads variables locks self.entry.sheet.now self.entry.at) }
+    {
+        indexed(self.sheet, self.at, header, locks, variables)
+    }
 }
 
 // Reads a sheet whose places an index can hold, from its start.
-pub(crate) fn walk_sheet(sheet: &[u8]) -> Index
+pub(crate) fn walk_sheet(sheet: &[u8]) -> Result<Index, Fault>
     requires { length sheet.now ≤ greatest_place }
-    ensures { result ≡ walked_index sheet.now }
+    ensures { result ≡ index_of (read_fields sheet.now) }
 {
-    let header = next_header(Reader { sheet, at: 0 });
-    let locks = next_locks(header.rest, header.progress);
-    let variables = next_variables(locks.rest, locks.progress);
-    rest_threads(variables.rest, variables.progress)
+    let (header, rest) = Reader { sheet, at: 0 }.header()?;
+    let (locks, rest) = rest.locks()?;
+    let (variables, rest) = rest.variables()?;
+    rest.threads(header, locks, variables)
 }

@@ -1,6 +1,7 @@
 -- The code's data in terms of the rule, whose definitions stand in `recorded`.
 pub mod Known
 pub mod Replay
+pub mod Sheet
 pub mod Act
 pub mod Step
 pub mod Reached

@@ -1,16 +1,22 @@
 -- Where following came to, in the rules.
-use Rattle.std.specs.Prelude.{ℕ}
-use Rattle.rules.specs.Refusal.{Result, value, fault}
+use Rattle.std.specs.Prelude.{ℕ, Result, Ok, Err}
 use Rattle.rules.specs.Format.{Got, bad, got}
+use Rattle.refusal.specs.declared.Fault.{Fault}
+use Rattle.refusal.specs.Shape.{rule_of}
 use Rattle.state.specs.Shape.{Sizes}
 use Rattle.recorded.specs.Follow as F
-use Rattle.record.specs.Replay.{unless_fault, replay_of}
-use Rattle.record.specs.declared.events.Reached.{Reached}
+use Rattle.record.specs.Replay.{replay_of}
+use Rattle.record.specs.declared.replay.Replay.{Replay}
 
--- a result with the place behind it, or at fault
-abbrev pub placed : {A : Type 0} → ℕ → Result A → Got A
-placed at (fault q) = bad q at
-placed at (value a) = got a at
+-- what was read and the place behind it, where f says what it is in the rules; or a fault
+abbrev pub got_of : {A B : Type 0} → (A → B) → Result (A × ℕ) Fault → Got B
+got_of f (Ok (a, q)) = got (f a) q
+got_of f (Err e) = bad (rule_of e.refusal) e.place
 
-abbrev pub reached_of : Sizes → Reached → Got F.Replay
-reached_of z y = placed y.place (unless_fault y.check (replay_of z y.replay))
+-- the same of a place alone, with what was lent as it is then
+abbrev pub placed : {A : Type 0} → A → Result ℕ Fault → Got A
+placed a (Ok q) = got a q
+placed a (Err e) = bad (rule_of e.refusal) e.place
+
+abbrev pub reached_of : Sizes → Result (Replay × ℕ) Fault → Got F.Replay
+reached_of z = got_of (replay_of z)

@@ -1,19 +1,16 @@
 -- What the code's replay state is in the rules: of its four threads, eight registers each, eight variables and eight locks, as
 -- many as the program has.
-use Rattle.std.specs.Prelude.{ℕ, List, [], ◌∷◌, pos, slice_index, slice_index_or}
-use Rattle.rules.specs.Refusal.{Result, value, fault}
+use Rattle.std.specs.Prelude.{ℕ, List, [], ◌∷◌, pos, slice_index, slice_index_or, Result}
+use Rattle.rules.specs.Refusal as Ref
 use Rattle.rules.specs.Run as R
 use Rattle.rules.specs.Run.{standing}
-use Rattle.refusal.specs.Shape.{rule_of}
+use Rattle.refusal.specs.declared.Refusal.{Refusal}
 use Rattle.interval.specs.declared.Val.{Val}
-use Rattle.expression.specs.declared.parts.Check.{Check}
-use Rattle.expression.specs.declared.parts.Check.TheVariants.{Passed, Fault}
 use Rattle.state.specs.Shape.{Sizes, owners_of}
 use Rattle.recorded.specs.Follow as F
-use Rattle.record.specs.Known.{values_of}
+use Rattle.record.specs.Known.{values_of, in_rules}
 use Rattle.record.specs.declared.replay.RunThread.{RunThread}
 use Rattle.record.specs.declared.replay.Replay.{Replay}
-use Rattle.record.specs.declared.replay.Replayed.{Replayed}
 
 -- what stands where no value or no thread does
 abbrev pub zero_val : Val
@@ -41,14 +38,9 @@ state_of z x = record { threads = threads_of z.regs x.threads; vars = values_of 
 abbrev pub replay_of : Sizes → Replay → F.Replay
 replay_of z x = record { state = state_of z x; tick = x.tick.0 }
 
--- a value, unless a check found a fault
-abbrev pub unless_fault : {A : Type 0} → Check → A → Result A
-unless_fault Passed a = value a
-unless_fault (Fault r) a = fault (rule_of r)
-
 -- the replay state that an event leaves, or its refusal
-abbrev pub replayed_of : Sizes → Replayed → Result F.Replay
-replayed_of z r = unless_fault r.check (replay_of z r.replay)
+abbrev pub replayed_of : Sizes → Result Replay Refusal → Ref.Result F.Replay
+replayed_of z = in_rules (replay_of z)
 
 -- the state after an event at tick e
 abbrev pub after : ℕ → R.RunState → F.Replay

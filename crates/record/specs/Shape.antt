@@ -1,5 +1,5 @@
 -- The code's answer as the rule's.
-use Rattle.std.specs.Prelude.{◌≡◌, ℕ, false, List}
+use Rattle.std.specs.Prelude.{◌≡◌, ℕ, List}
 use Rattle.rules.specs.Base.{at_front}
 use Rattle.recorded.specs.Follow.{Answer, the_sheet, the_record, listed}
 use Rattle.recorded.specs.Follow as F
@@ -13,10 +13,6 @@ file_of Record = the_record
 
 abbrev pub followed_of : Followed → Answer
 followed_of a = record { refusal = a.refusal; file = file_of a.file; place = a.place; finished = a.finished; tick = a.tick }
-
--- a refusal of the sheet, by its number
-abbrev pub refused_sheet : ℕ → ℕ → Answer
-refused_sheet n p = record { refusal = n; file = the_sheet; place = p; finished = false; tick = 0 }
 
 -- what the exported call gives: the refusal, and the five numbers at the front of an array that has room for them
 pub record FiveIn (a : Answer) (before after : List ℕ) (r : ℕ) : Type 0 where

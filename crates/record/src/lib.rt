@@ -5,9 +5,13 @@ ghost use Rattle.std.specs.Prelude.{◌≡◌};
 ghost use Rattle.rules.specs.Demands.{Unchanged};
 ghost use Rattle.recorded.specs.Follow as F;
 ghost use Rattle.recorded.specs.Claims.{EndsInLabel};
-ghost use Rattle.record.specs.Shape.{file_of, FiveIn};
+ghost use Rattle.record.specs.Shape.{FiveIn};
+
+use writing::put_front;
 
 mod replay; // the replay state, by value
+mod sheet; // a sheet that reads, with what following keeps of its index
+mod threads; // the threads of a replay state
 mod known; // expressions where every value is known
 mod act; // what a statement does to the replay state
 mod step; // one event of a record, by value
@@ -18,26 +22,6 @@ mod whole; // the follower
 
 pub use whole::{File, Followed, follow};
 
-// 0 the sheet, 1 the record.
-pub fn number_of_file(file: File) -> u64
-    ensures { result ≡ F.file_number (file_of file) }
-{
-    match file {
-        File::Sheet => 0,
-        File::Record => 1,
-    }
-}
-
-// 0 for false, 1 for true.
-pub fn number_of_truth(fact: bool) -> u64
-    ensures { result ≡ F.bit fact }
-{
-    if fact {
-        return 1;
-    }
-    0
-}
-
 // The follower for callers in C and in Rust: the answer's five numbers (refusal, file, place, finished, tick) go to the front of a lent
 // array, and the refusal is returned. An array of fewer than five numbers is left as it is.
 #[unsafe(no_mangle)]
@@ -47,16 +31,15 @@ pub extern "C" fn zumbeiry_follow(sheet: &[u8], recorded: &[u8], answer: &mut [u
     ensures unchanged { Unchanged sheet.now sheet.now × Unchanged recorded.now recorded.now }
 {
     let a = follow(sheet, recorded);
-    if answer.len() < 5 {
-        return a.refusal;
-    }
-    let file = a.file;
-    let number = number_of_file(file);
-    let finished = number_of_truth(a.finished);
-    answer[0] = a.refusal as u64;
-    answer[1] = number;
-    answer[2] = a.place as u64;
-    answer[3] = finished;
-    answer[4] = a.tick as u64;
+    put_front(
+        answer,
+        [
+            u64::from(a.refusal),
+            u64::from(a.file),
+            a.place as u64,
+            u64::from(a.finished),
+            u64::from(a.tick),
+        ],
+    );
     a.refusal
 }

@@ -1,39 +1,46 @@
 // The follower: a sheet and a record in; out, a refusal with its file and place, or whether the run is finished, with its last tick.
-ghost use Rattle.std.specs.Prelude.{◌≡◌};
+ghost use Rattle.std.specs.Prelude.{◌≡◌, Ok};
 ghost use Rattle.rules.specs.Format.{read_sheet};
-ghost use Rattle.rules.specs.Run.{finished};
 ghost use Rattle.rules.specs.Demands.{Unchanged};
 ghost use Rattle.refusal.specs.Shape.{rule_of};
 ghost use Rattle.reader.specs.Index.{index_of};
-ghost use Rattle.reader.specs.Facts.{program_in};
-ghost use Rattle.state.specs.Shape.{sizes_of};
-ghost use Rattle.event.specs.Plan.{Ready};
 ghost use Rattle.recorded.specs.Follow as F;
-ghost use Rattle.recorded.specs.Follow.{refused, answer_of, follow_record, follow_with};
+ghost use Rattle.recorded.specs.Follow.{refused, follow_record, follow_with};
 ghost use Rattle.recorded.specs.Claims.{EndsInLabel};
-ghost use Rattle.record.specs.Replay.{state_of};
 ghost use Rattle.record.specs.Reached.{reached_of};
-ghost use Rattle.record.specs.Start.{StartsFrom, VariablesFrom};
-ghost use Rattle.record.specs.Shape.{followed_of, refused_sheet};
+ghost use Rattle.record.specs.Start.{StartsFrom};
+ghost use Rattle.record.specs.Sheet.{program_of, sizes_in, IsReady};
+ghost use Rattle.record.specs.Shape.{file_of, followed_of};
 
-use crate::events::{Reached, follow_events};
+use crate::events::follow_events;
 use crate::replay::Replay;
+use crate::sheet::Sheet;
 use crate::starting::start_replay;
-use event::fetch::fetch;
+use crate::threads::all_halt;
 use event::plan::Plan;
-use expression::Check;
-use field::is_halt;
-use reader::{Index, MOST_PLACES, read_sheet};
-use refusal::{Refusal, number_of};
+use reader::{Index, read_sheet};
+use refusal::{Fault, Refusal};
 use state::{State, start};
 
 const LONGEST_RECORD: usize = 65536;
 
 // The file at fault.
-#[derive(Clone, Copy)]
+#[derive(Clone, Copy, PartialEq, Eq)]
 pub enum File {
     Sheet,
     Record,
+}
+
+// 0 the sheet, 1 the record.
+impl From<File> for u64 {
+    ghost from_gives = { λ f n. n ≡ F.file_number (file_of f) };
+
+    fn from(f: File) -> u64 {
+        match f {
+            File::Sheet => 0,
+            File::Record => 1,
+        }
+    }
 }
 
 // Refusal 0: the record is a run of the sheet, finished or not, whose last event is at the tick; the file is then the sheet and the
@@ -47,119 +54,61 @@ pub struct Followed {
     pub tick: u32,
 }
 
-// Every thread stands at halt.
-fn all_halt(sheet: &[u8], places: &[u16; MOST_PLACES], plan: Plan, x: Replay) -> bool
-    requires { Ready sheet.now plan places.now }
-    ensures { result ≡ finished (program_in sheet.now) (state_of (sizes_of (program_in sheet.now)) x) }
+// The answer to a fault of a file.
+fn refused(file: File, f: Fault) -> Followed
+    ensures { followed_of result ≡ refused (file_of file) (rule_of f.refusal) f.place }
 {
-    let mut u: usize = 0;
-    while u < plan.threads {
-        let th = x.threads[u];
-        let f = fetch(sheet, places, plan, u, th.at);
-        let action = f.action;
-        if is_halt(action) {
-            u += 1;
-        } else {
-            return false;
-        }
-    }
-    true
-}
-
-fn in_record(q: Refusal, place: usize) -> Followed
-    ensures { followed_of result ≡ refused F.the_record (rule_of q) place }
-{
-    let number = number_of(q);
     Followed {
-        refusal: number,
-        file: File::Record,
-        place: place,
+        refusal: u32::from(f.refusal),
+        file,
+        place: f.place,
         finished: false,
         tick: 0,
     }
 }
 
-// The sheet's own number.
-fn in_sheet(number: u32, place: usize) -> Followed
-    ensures { followed_of result ≡ refused_sheet number place }
+// The whole record: its length, its starting values, its events. What they leave, and the record's end.
+#[tactic(auto, unfolding(crate::proofs::Opened::follow_record))]
+fn follow_record(sheet: &Sheet, first: &State, r: &[u8]) -> Result<(Replay, usize), Fault>
+    requires { IsReady sheet.now × StartsFrom (program_of sheet.now) first.now }
+    ensures { reached_of (sizes_in sheet.now) result ≡ follow_record (program_of sheet.now) r.now }
 {
-    Followed {
-        refusal: number,
-        file: File::Sheet,
-        place: place,
-        finished: false,
-        tick: 0,
-    }
-}
-
-// What following came to: a refusal, or the run's state, finished or not.
-fn judged(sheet: &[u8], places: &[u16; MOST_PLACES], plan: Plan, y: Reached) -> Followed
-    requires { Ready sheet.now plan places.now }
-    ensures { followed_of result ≡ answer_of (program_in sheet.now) (reached_of (sizes_of (program_in sheet.now)) y) }
-{
-    let check = y.check;
-    match check {
-        Check::Fault(q) => in_record(q, y.place),
-        Check::Passed => {
-            let x = y.replay;
-            let done = all_halt(sheet, places, plan, x);
-            let tick = x.tick;
-            Followed {
-                refusal: 0,
-                file: File::Sheet,
-                place: 0,
-                finished: done,
-                tick: tick.0,
-            }
-        }
-    }
-}
-
-// The whole record: its length, its starting values, its events. The starting values are read first, because a refusal comes with a
-// state; of a record that is too long they are at most 40 fields.
-fn follow_record(
-    sheet: &[u8],
-    places: &[u16; MOST_PLACES],
-    plan: Plan,
-    first: State,
-    variables: usize,
-    r: &[u8],
-) -> Reached
-    requires { Ready sheet.now plan places.now × (StartsFrom (program_in sheet.now) plan first × VariablesFrom (program_in sheet.now) variables first) }
-    ensures { reached_of (sizes_of (program_in sheet.now)) result ≡ follow_record (program_in sheet.now) r.now }
-{
-    let s = start_replay(r, first, plan, variables);
-    let x = s.replay;
     if LONGEST_RECORD < r.len() {
-        return Reached {
-            check: Check::Fault(Refusal::TooLong),
+        return Err(Fault {
+            refusal: Refusal::TooLong,
             place: 0,
-            replay: x,
-        };
+        });
     }
-    let check = s.check;
-    match check {
-        Check::Fault(_) => s,
-        Check::Passed => follow_events(sheet, places, plan, x, r, s.place),
-    }
+    let (x, at) = start_replay(sheet, first, r)?;
+    follow_events(sheet, x, r, at)
 }
 
 // The answer to a sheet that reads.
-fn follow_index(sheet: &[u8], index: Index, r: &[u8]) -> Followed
-    requires { (index ≡ index_of (read_sheet sheet.now)) × (index.refusal ≡ 0) }
-    ensures { followed_of result ≡ follow_with r.now (read_sheet sheet.now) }
+fn follow_index(bytes: &[u8], index: Index, r: &[u8]) -> Followed
+    requires { index_of (read_sheet bytes.now) ≡ Ok index }
+    ensures { followed_of result ≡ follow_with r.now (read_sheet bytes.now) }
 {
-    let first = start(sheet, index);
-    let places = index.places;
-    let entries = index.entries;
-    let limit = index.limit;
-    let plan = Plan {
-        threads: index.threads,
-        limit: limit,
-        entries: entries,
+    let first = start(bytes, index);
+    let sheet = Sheet {
+        bytes,
+        places: &index.places,
+        plan: Plan {
+            threads: index.threads,
+            limit: index.limit,
+            entries: index.entries,
+        },
+        variables: index.variables,
     };
-    let y = follow_record(sheet, &places, plan, first, index.variables, r);
-    judged(sheet, &places, plan, y)
+    match follow_record(&sheet, &first, r) {
+        Err(f) => refused(File::Record, f),
+        Ok((x, _)) => Followed {
+            refusal: 0,
+            file: File::Sheet,
+            place: 0,
+            finished: all_halt(&sheet, &x),
+            tick: x.tick.0,
+        },
+    }
 }
 
 // Whether the record is a run of the sheet that leaves a state, finished or not, with the last tick. A finished one ends inside the
@@ -169,9 +118,8 @@ pub fn follow(sheet: &[u8], recorded: &[u8]) -> Followed
     ensures ends_in_label { EndsInLabel sheet.now (followed_of result) }
     ensures unchanged { Unchanged sheet.now sheet.now × Unchanged recorded.now recorded.now }
 {
-    let index = read_sheet(sheet);
-    if index.refusal == 0 {
-        return follow_index(sheet, index, recorded);
+    match read_sheet(sheet) {
+        Err(f) => refused(File::Sheet, f),
+        Ok(index) => follow_index(sheet, index, recorded),
     }
-    in_sheet(index.refusal, index.place)
 }

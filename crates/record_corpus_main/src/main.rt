@@ -6,24 +6,38 @@
 // and how many of these it noticed.
 #![tactic(auto)]
 
-ghost use Rattle.std.specs.Prelude.{◌≤◌, length};
-
-use corpus::{both, counted, four, put, read_front, wide};
+use corpus::{counted, four, over_entries, put, read_front};
 use files::read_full;
-use record::{Followed, follow, number_of_file, number_of_truth};
+use record::{Followed, follow};
+use std::io::Read;
 
 // Bytes of a sheet and of a record at most.
 const SHEET_ROOM: usize = 20000;
 
 const RECORD_ROOM: usize = 70000;
 
-// What is planted in an entry: one of the five numbers is wrong.
-const WRONG: u64 = 1;
+// What is planted in an entry: one of the five numbers is wrong. No corpus has another number there; it would count for nothing.
+#[derive(Clone, Copy, PartialEq, Eq)]
+enum Planted {
+    Nothing,
+    WrongNumber,
+    Unknown,
+}
+
+impl From<u8> for Planted {
+    fn from(n: u8) -> Planted {
+        match n {
+            0 => Planted::Nothing,
+            1 => Planted::WrongNumber,
+            _ => Planted::Unknown,
+        }
+    }
+}
 
 // An entry but for the bytes of its sheet and its record, of which these are the lengths.
 #[derive(Clone, Copy)]
 struct Entry {
-    planted: u64,
+    planted: Planted,
     sheet: usize,
     recorded: usize,
     refusal: u64,
@@ -33,120 +47,75 @@ struct Entry {
     tick: u64,
 }
 
-// How many entries are right, and how many of these differ; how many have a wrong number, and how many of these were noticed; and
-// whether the reading ended before the last.
-#[derive(Clone, Copy)]
+// How many entries are right, and how many of these differ; how many have a wrong number, and how many of these were noticed.
+#[derive(Clone, Copy, Default)]
 struct Tally {
     compared: u64,
     differ: u64,
     numbers: u64,
     numbers_noticed: u64,
-    ended: bool,
 }
 
 fn entry_of(b: &[u8; 20]) -> Entry {
     Entry {
-        planted: wide(b[0]),
+        planted: Planted::from(b[0]),
         sheet: four(b[1], b[2], b[3], b[4]) as usize,
         recorded: four(b[5], b[6], b[7], b[8]) as usize,
-        refusal: wide(b[9]),
-        file: wide(b[10]),
+        refusal: u64::from(b[9]),
+        file: u64::from(b[10]),
         place: four(b[11], b[12], b[13], b[14]),
-        finished: wide(b[15]),
+        finished: u64::from(b[15]),
         tick: four(b[16], b[17], b[18], b[19]),
     }
 }
 
 fn same(f: Followed, e: Entry) -> bool {
-    if f.refusal as u64 != e.refusal {
-        return false;
-    }
-    let file = f.file;
-    if number_of_file(file) != e.file {
-        return false;
-    }
-    if f.place as u64 != e.place {
-        return false;
-    }
-    if number_of_truth(f.finished) != e.finished {
-        return false;
-    }
-    f.tick as u64 == e.tick
+    u64::from(f.refusal) == e.refusal
+        && u64::from(f.file) == e.file
+        && f.place as u64 == e.place
+        && u64::from(f.finished) == e.finished
+        && u64::from(f.tick) == e.tick
 }
 
-fn compare(e: Entry, sheet: &[u8], recorded: &[u8]) -> bool {
-    same(follow(sheet, recorded), e)
-}
-
-// The sheet and the record are the fronts of the buffers.
-fn compare_fronts(e: Entry, sheet: &[u8], recorded: &[u8]) -> bool
-    requires sheet_in_bounds { e.sheet ≤ length sheet.now }
-    requires recorded_in_bounds { e.recorded ≤ length recorded.now }
-{
-    let n = e.sheet;
-    let m = e.recorded;
-    compare(e, &sheet[..n], &recorded[..m])
-}
-
-fn added(t: Tally, alike: bool, planted: u64) -> Tally {
-    let right = planted == 0;
-    let number = planted == WRONG;
+fn added(t: Tally, alike: bool, planted: Planted) -> Tally {
+    let right = planted == Planted::Nothing;
+    let number = planted == Planted::WrongNumber;
     Tally {
         compared: counted(t.compared, right),
-        differ: counted(t.differ, both(right, !alike)),
+        differ: counted(t.differ, right && !alike),
         numbers: counted(t.numbers, number),
-        numbers_noticed: counted(t.numbers_noticed, both(number, !alike)),
-        ended: t.ended,
+        numbers_noticed: counted(t.numbers_noticed, number && !alike),
     }
 }
 
-fn ended(mut t: Tally) -> Tally {
-    t.ended = true;
-    t
-}
-
-// One entry more. One that the corpus does not hold whole ends the reading.
-fn compare_next(rt: HostRuntime, t: Tally, sheet: &mut [u8], recorded: &mut [u8]) -> Tally {
+// One entry more, its sheet and its record at the fronts of the buffers; none where the corpus does not hold it whole.
+fn compare_next<R: Read>(
+    from: &mut R,
+    t: Tally,
+    sheet: &mut [u8],
+    recorded: &mut [u8],
+) -> Option<Tally> {
     let mut front = [0u8; 20];
-    if read_full(&mut rt.stdin(), &mut front) < 20 {
-        return ended(t);
+    if read_full(from, &mut front) < 20 {
+        return None;
     }
     let e = entry_of(&front);
-    if !read_front(&mut rt.stdin(), sheet, e.sheet) {
-        return ended(t);
+    if !read_front(from, sheet, e.sheet) || !read_front(from, recorded, e.recorded) {
+        return None;
     }
-    if !read_front(&mut rt.stdin(), recorded, e.recorded) {
-        return ended(t);
-    }
-    added(t, compare_fronts(e, sheet, recorded), e.planted)
-}
-
-fn compare_all(rt: HostRuntime, count: u64, sheet: &mut [u8], recorded: &mut [u8]) -> Tally {
-    let mut t = Tally {
-        compared: 0,
-        differ: 0,
-        numbers: 0,
-        numbers_noticed: 0,
-        ended: false,
-    };
-    for _ in 0..count {
-        t = compare_next(rt, t, sheet, recorded);
-        if t.ended {
-            return t;
-        }
-    }
-    t
+    let f = follow(&sheet[..e.sheet], &recorded[..e.recorded]);
+    Some(added(t, same(f, e), e.planted))
 }
 
 fn main(rt: HostRuntime) {
-    let mut count = [0u8; 4];
-    if read_full(&mut rt.stdin(), &mut count) < 4 {
-        return;
-    }
     let mut sheet = [0u8; SHEET_ROOM];
     let mut recorded = [0u8; RECORD_ROOM];
-    let n = four(count[0], count[1], count[2], count[3]);
-    let t = compare_all(rt, n, &mut sheet, &mut recorded);
+    let tally = over_entries(&mut rt.stdin(), Tally::default(), |from, t| {
+        compare_next(from, t, &mut sheet, &mut recorded)
+    });
+    let Some(t) = tally else {
+        return;
+    };
     put(rt, t.compared, b" records compared, ");
     put(rt, t.differ, b" differ; noticed of what is planted: ");
     put(rt, t.numbers_noticed, b" of ");

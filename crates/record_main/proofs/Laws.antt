@@ -12,29 +12,19 @@ use Rattle.rules.specs.Program.{Program}
 use Rattle.rules.specs.Format.{Bytes, Got, bad, got, need, read_sheet}
 use Rattle.rules.specs.Product.{decimal}
 use Rattle.rules.proofs.Longest.{told-by-front, sheet-told}
-use Rattle.writing.specs.Out.{out_of, write, Writes}
-use Rattle.writing.proofs.Written.{text-then, fits-inside}
+use Rattle.writing.specs.Out.{out_of, write, Writes, line_of}
+use Rattle.writing.proofs.Written.{fits-inside}
 use Rattle.writing.proofs.Decimal.{number-length}
 use Rattle.recorded.specs.Follow.{file_number, bit, longest_record, File, the_sheet, the_record, Answer, follow_record, answer_of, follow_with, follow}
 use Rattle.record_main.specs.Line.{line, longest_line, printed, EnoughRead}
 
 -- ---- the five numbers, one behind the other
 
--- a number that is written is written as what it equals
-pub written_as : (n m b : ℕ) → n ≡ m → (l₀ l₁ : Bytes) (p₀ p₁ : ℕ) → Writes (decimal n ++ b ∷ []) l₀ p₀ l₁ p₁ → Writes (decimal m ++ b ∷ []) l₀ p₀ l₁ p₁
-written_as n m b e l₀ l₁ p₀ p₁ w = w ∙ ap (λ (k : ℕ). write (decimal k ++ b ∷ []) (out_of l₀ p₀)) e
-
-pub line-written : (a : Answer) (l₀ l₁ l₂ l₃ l₄ l₅ : Bytes) (p₁ p₂ p₃ p₄ p₅ : ℕ)
-    → Writes (decimal a.refusal ++ 32 ∷ []) l₀ 0 l₁ p₁
-    → Writes (decimal (file_number a.file) ++ 32 ∷ []) l₁ p₁ l₂ p₂
-    → Writes (decimal a.place ++ 32 ∷ []) l₂ p₂ l₃ p₃
-    → Writes (decimal (bit a.finished) ++ 32 ∷ []) l₃ p₃ l₄ p₄
-    → Writes (decimal a.tick ++ 10 ∷ []) l₄ p₄ l₅ p₅
-    → Writes (line a) l₀ 0 l₅ p₅
-unfolding line
-line-written a l₀ l₁ l₂ l₃ l₄ l₅ p₁ p₂ p₃ p₄ p₅ r f p d t =
-    text-then (decimal a.refusal) 32 _ l₀ l₁ l₅ 0 p₁ p₅ r (text-then (decimal (file_number a.file)) 32 _ l₁ l₂ l₅ p₁ p₂ p₅ f
-    (text-then (decimal a.place) 32 _ l₂ l₃ l₅ p₂ p₃ p₅ p (text-then (decimal (bit a.finished)) 32 _ l₃ l₄ l₅ p₃ p₄ p₅ d t)))
+-- what is written of the answer's numbers is the line
+pub line-as : (a : Answer) (f d : ℕ) → f ≡ file_number a.file → d ≡ bit a.finished → (before after : Bytes) (n : ℕ)
+    → Writes (line_of (a.refusal ∷ f ∷ a.place ∷ d ∷ a.tick ∷ [])) before 0 after n → Writes (line a) before 0 after n
+unfolding line line_of
+line-as a f d e h before after n w = w ∙ (λ i. write (line_of (a.refusal ∷ e i ∷ a.place ∷ h i ∷ a.tick ∷ [])) (out_of before 0))
 
 -- ---- the line's length
 

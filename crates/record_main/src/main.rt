@@ -7,14 +7,13 @@
 ghost use Rattle.std.specs.Prelude.{◌≡◌, ◌+◌, ◌≤◌, length};
 ghost use Rattle.writing.specs.Out.{Writes};
 ghost use Rattle.recorded.specs.Follow.{longest_record};
-ghost use Rattle.record.specs.Shape.{followed_of};
-ghost use Rattle.record_main.specs.Line.{longest_line, line, printed};
+ghost use Rattle.record_main.specs.Line.{longest_line, printed};
 
 use files::{MOST_OF_SHEET, opened, read_full, read_sheet, reads_on, tell, word_count};
-use record::{Followed, follow, number_of_file, number_of_truth};
+use record::{Followed, follow};
 use std::fs::File;
 use std::io::Print;
-use writing::put_number;
+use writing::put_line;
 
 // One byte more than a record may have, so that a longer one is seen to be too long, and the rule gives it its number.
 const MOST_OF_RECORD: usize = 65537;
@@ -24,26 +23,24 @@ const LONGEST_LINE: usize = 47;
 
 // ---- the line
 
-// The five numbers at the buffer's front: spaces between them, a newline at the end.
-fn put_line(out: &mut [u8], a: Followed) -> usize
-    ensures { Writes (line (followed_of a)) out.old 0 out.new result }
-{
-    let file = a.file;
-    let second = put_number(out, 0, a.refusal as usize, b' ');
-    let third = put_number(out, second, number_of_file(file) as usize, b' ');
-    let fourth = put_number(out, third, a.place, b' ');
-    let fifth = put_number(out, fourth, number_of_truth(a.finished) as usize, b' ');
-    put_number(out, fifth, a.tick as usize, b'\n')
-}
-
-// What is printed of a sheet and a record, at the buffer's front.
+// What is printed of a sheet and a record, at the buffer's front: the line of the answer's five numbers.
 fn answer(sheet: &[u8], recorded: &[u8], out: &mut [u8]) -> usize
     requires { longest_line ≤ length out.old }
     ensures writes { Writes (printed sheet.now recorded.now) out.old 0 out.new result }
     ensures upper_bound { result ≤ length out.new }
 {
     let a = follow(sheet, recorded);
-    put_line(out, a)
+    put_line(
+        out,
+        0,
+        &[
+            a.refusal as usize,
+            u64::from(a.file) as usize,
+            a.place,
+            usize::from(a.finished),
+            a.tick as usize,
+        ],
+    )
 }
 
 fn put_answer(rt: HostRuntime, sheet: &[u8], recorded: &[u8]) {

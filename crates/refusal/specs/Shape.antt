@@ -1,5 +1,7 @@
 -- The code's refusals and those of the rules: one for each of the other.
 use Rattle.rules.specs.Refusal as R
+use Rattle.std.specs.Prelude.{ℕ}
+use Rattle.refusal.specs.declared.Fault.{Fault}
 use Rattle.refusal.specs.declared.Refusal.{Refusal}
 use Rattle.refusal.specs.declared.Refusal.TheVariants.{Short, OutOfTurn, BadLength, OffRange, NoSuchName, BadExpression, NoHalt, TooMany, TooLong, NoReading, Stuck, PastLimit, OutOfSteps, OutOfRoom, LabelBroken, OffScale, ChangedSince, OutputFull, Unreadable, NotRun}
 
@@ -48,3 +50,7 @@ rule_of ChangedSince = R.changed_since
 rule_of OutputFull = R.output_full
 rule_of Unreadable = R.unreadable
 rule_of NotRun = R.not_run
+
+-- a refusal of the rules at a place, as the code tells it
+abbrev pub fault_at : R.Refusal → ℕ → Fault
+fault_at r p = record { refusal = refusal_of r; place = p }

@@ -1,5 +1,6 @@
--- What the code finds, changes, previews and takes back.
+-- Laws of what the code finds, writes and gives.
 pub mod Finding
+pub mod Writing
 pub mod Changing
-pub mod Previewing
 pub mod TakingBack
+pub mod Previewing

@@ -1,30 +1,39 @@
 // A change of times taken back: where nothing else was written since, the sheet is again the very bytes before it.
-ghost use Rattle.std.specs.Prelude.{◌≡◌};
+ghost use Rattle.std.specs.Prelude.{◌≡◌, Ok};
 ghost use Rattle.rules.specs.Format.{read_sheet};
 ghost use Rattle.reader.specs.Index.{index_of};
 ghost use Rattle.retimed.specs.TakeBack.{same_times, take_back};
 ghost use Rattle.retimed.specs.TakeBackClaims.{AllComeBack};
-ghost use Rattle.retime.specs.Shape.{change_of, taken_as, taken_of};
+ghost use Rattle.retime.specs.Shape.{change_of, taken_by, taken_of};
 
-use crate::change::Change;
+use crate::change::{Change, placeless};
 use crate::find::{Found, find};
 use crate::times::{may_have, write_times};
 use reader::{Index, read_sheet};
-use refusal::{Refusal, number_of};
+use refusal::{Fault, Refusal};
 
-// Refusal 0 at place 0: the old times stand in the sheet again. Any other: the sheet is as it was.
+// The numbers of the answer, as the call for C gives them. Refusal 0 at place 0: the old times stand in the sheet again. Any other: the
+// sheet is as it was.
 #[derive(Clone, Copy)]
 pub struct TakenBack {
     pub refusal: u32,
     pub place: usize,
 }
 
-fn answered(refusal: u32, place: usize) -> TakenBack
-    ensures { result ≡ taken_as refusal place }
-{
-    TakenBack {
-        refusal: refusal,
-        place: place,
+impl From<Result<(), Fault>> for TakenBack {
+    ghost from_gives = { λ r b. b ≡ taken_by r };
+
+    fn from(r: Result<(), Fault>) -> TakenBack {
+        match r {
+            Ok(()) => TakenBack {
+                refusal: 0,
+                place: 0,
+            },
+            Err(f) => TakenBack {
+                refusal: u32::from(f.refusal),
+                place: f.place,
+            },
+        }
     }
 }
 
@@ -32,32 +41,33 @@ fn answered(refusal: u32, place: usize) -> TakenBack
 fn shows(f: Found, least: u64, greatest: u64) -> bool
     ensures { result ≡ same_times f.least f.greatest least greatest }
 {
-    if f.least == least {
-        return f.greatest == greatest;
-    }
-    false
+    f.least == least && f.greatest == greatest
 }
 
 // The taking back in a sheet that reads, by its index.
-fn take_back_by(sheet: &mut [u8], index: Index, change: Change) -> TakenBack
-    requires { (index ≡ index_of (read_sheet sheet.old)) × (index.refusal ≡ 0) }
-    ensures { taken_of result sheet.new ≡ take_back sheet.old (change_of change) }
+fn take_back_by(sheet: &mut [u8], index: &Index, change: Change) -> Result<(), Fault>
+    requires { index_of (read_sheet sheet.old) ≡ Ok index.now }
+    ensures { taken_of (taken_by result) sheet.new ≡ take_back sheet.old (change_of change) }
 {
-    let f = find(sheet, index, change.thread, change.statement);
-    if f.there {
-        if may_have(f.code, change.old_least, change.old_greatest) {
-            if shows(f, change.new_least, change.new_greatest) {
-                write_times(sheet, f.place, change.old_least, change.old_greatest);
-                return answered(0, 0);
-            }
-            let number = number_of(Refusal::ChangedSince);
-            return answered(number, 0);
-        }
-        let number = number_of(Refusal::OffRange);
-        return answered(number, 0);
+    let Some(f) = find(sheet, index, change.thread, change.statement) else {
+        return Err(placeless(Refusal::NoSuchName));
+    };
+    if !may_have(f.code, change.old_least, change.old_greatest) {
+        return Err(placeless(Refusal::OffRange));
     }
-    let number = number_of(Refusal::NoSuchName);
-    answered(number, 0)
+    if !shows(f, change.new_least, change.new_greatest) {
+        return Err(placeless(Refusal::ChangedSince));
+    }
+    write_times(sheet, f.place, change.old_least, change.old_greatest);
+    Ok(())
+}
+
+// The same, where the sheet is read first.
+fn take_back_read(sheet: &mut [u8], change: Change) -> Result<(), Fault>
+    ensures { taken_of (taken_by result) sheet.new ≡ take_back sheet.old (change_of change) }
+{
+    let index = read_sheet(sheet)?;
+    take_back_by(sheet, &index, change)
 }
 
 // Takes back what a change did.
@@ -65,9 +75,5 @@ pub fn take_back(sheet: &mut [u8], change: Change) -> TakenBack
     ensures sheet_after { taken_of result sheet.new ≡ take_back sheet.old (change_of change) }
     ensures all_come_back { AllComeBack sheet.old }
 {
-    let index = read_sheet(sheet);
-    if index.refusal == 0 {
-        return take_back_by(sheet, index, change);
-    }
-    answered(index.refusal, index.place)
+    TakenBack::from(take_back_read(sheet, change))
 }

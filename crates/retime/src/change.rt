@@ -1,19 +1,28 @@
 // New times on one statement: the four time bytes are written in the sheet, and no other byte.
-ghost use Rattle.std.specs.Prelude.{◌≡◌};
+ghost use Rattle.std.specs.Prelude.{◌≡◌, Ok};
 ghost use Rattle.rules.specs.Format.{read_sheet};
 ghost use Rattle.reader.specs.Index.{index_of};
-ghost use Rattle.retimed.specs.Retime.{from_to, no_change, change};
+ghost use Rattle.retimed.specs.Retime.{change};
 ghost use Rattle.retimed.specs.Claims.{ReadsRetimed};
 ghost use Rattle.retimed.specs.TakeBackClaims.{ComesBack};
-ghost use Rattle.retime.specs.Shape.{changed_as, changed_of};
+ghost use Rattle.retime.specs.Shape.{placeless, changed_by, changed_of};
 
-use crate::find::{Found, find};
+use crate::find::find;
 use crate::times::{may_have, write_times};
 use reader::{Index, read_sheet};
-use refusal::{Refusal, number_of};
+use refusal::{Fault, Refusal};
+
+// New times for a statement, named by its thread and its number in it, both from 0.
+#[derive(Clone, Copy)]
+pub struct Asked {
+    pub thread: usize,
+    pub statement: usize,
+    pub least: u64,
+    pub greatest: u64,
+}
 
 // What a change did: the statement by its thread and its number in it, its times before and after.
-#[derive(Clone, Copy)]
+#[derive(Clone, Copy, PartialEq, Eq)]
 pub struct Change {
     pub thread: usize,
     pub statement: usize,
@@ -23,7 +32,8 @@ pub struct Change {
     pub new_greatest: u64,
 }
 
-// Refusal 0 at place 0: the change was made. Any other: the sheet is as it was, and the change all zeros.
+// The numbers of the answer, as the call for C gives them. Refusal 0 at place 0: the change was made. Any other: the sheet is as it was,
+// and the change all zeros.
 #[derive(Clone, Copy)]
 pub struct Changed {
     pub refusal: u32,
@@ -31,82 +41,77 @@ pub struct Changed {
     pub change: Change,
 }
 
-fn refused(refusal: u32, place: usize) -> Changed
-    ensures { result ≡ changed_as refusal place no_change }
-{
-    let change = Change {
-        thread: 0,
-        statement: 0,
-        old_least: 0,
-        old_greatest: 0,
-        new_least: 0,
-        new_greatest: 0,
-    };
-    Changed {
-        refusal: refusal,
-        place: place,
-        change: change,
+// Where nothing was changed.
+const NO_CHANGE: Change = Change {
+    thread: 0,
+    statement: 0,
+    old_least: 0,
+    old_greatest: 0,
+    new_least: 0,
+    new_greatest: 0,
+};
+
+impl From<Result<Change, Fault>> for Changed {
+    ghost from_gives = { λ r c. c ≡ changed_by r };
+
+    fn from(r: Result<Change, Fault>) -> Changed {
+        match r {
+            Ok(change) => Changed {
+                refusal: 0,
+                place: 0,
+                change,
+            },
+            Err(f) => Changed {
+                refusal: u32::from(f.refusal),
+                place: f.place,
+                change: NO_CHANGE,
+            },
+        }
     }
 }
 
-fn made(thread: usize, statement: usize, f: Found, least: u64, greatest: u64) -> Changed
-    ensures { result ≡ changed_as 0 0 (from_to thread statement f.least f.greatest least greatest) }
+// A refusal of what was asked for speaks of no place in the sheet, and has the place 0.
+pub(crate) fn placeless(refusal: Refusal) -> Fault
+    ensures { result ≡ placeless refusal }
 {
-    let change = Change {
-        thread: thread,
-        statement: statement,
-        old_least: f.least,
-        old_greatest: f.greatest,
-        new_least: least,
-        new_greatest: greatest,
-    };
-    Changed {
-        refusal: 0,
-        place: 0,
-        change: change,
-    }
+    Fault { refusal, place: 0 }
 }
 
 // The change of a sheet that reads, by its index.
-pub(crate) fn change_by(
-    sheet: &mut [u8],
-    index: Index,
-    thread: usize,
-    statement: usize,
-    least: u64,
-    greatest: u64,
-) -> Changed
-    requires { (index ≡ index_of (read_sheet sheet.old)) × (index.refusal ≡ 0) }
-    ensures { changed_of result sheet.new ≡ change sheet.old thread statement least greatest }
+pub(crate) fn change_by(sheet: &mut [u8], index: &Index, asked: Asked) -> Result<Change, Fault>
+    requires { index_of (read_sheet sheet.old) ≡ Ok index.now }
+    ensures { changed_of (changed_by result) sheet.new ≡ change sheet.old asked.thread asked.statement asked.least asked.greatest }
 {
-    let f = find(sheet, index, thread, statement);
-    if f.there {
-        if may_have(f.code, least, greatest) {
-            write_times(sheet, f.place, least, greatest);
-            return made(thread, statement, f, least, greatest);
-        }
-        let number = number_of(Refusal::OffRange);
-        return refused(number, 0);
+    let Some(f) = find(sheet, index, asked.thread, asked.statement) else {
+        return Err(placeless(Refusal::NoSuchName));
+    };
+    if !may_have(f.code, asked.least, asked.greatest) {
+        return Err(placeless(Refusal::OffRange));
     }
-    let number = number_of(Refusal::NoSuchName);
-    refused(number, 0)
+    write_times(sheet, f.place, asked.least, asked.greatest);
+    Ok(Change {
+        thread: asked.thread,
+        statement: asked.statement,
+        old_least: f.least,
+        old_greatest: f.greatest,
+        new_least: asked.least,
+        new_greatest: asked.greatest,
+    })
 }
 
-// Sets new times on a statement, named by its thread and its number in it, both from 0.
-pub fn change_times(
-    sheet: &mut [u8],
-    thread: usize,
-    statement: usize,
-    least: u64,
-    greatest: u64,
-) -> Changed
-    ensures sheet_after { changed_of result sheet.new ≡ change sheet.old thread statement least greatest }
-    ensures reads_retimed { ReadsRetimed sheet.old thread statement least greatest }
-    ensures comes_back { ComesBack sheet.old thread statement least greatest }
+// The same, where the sheet is read first.
+fn change_read(sheet: &mut [u8], asked: Asked) -> Result<Change, Fault>
+    ensures { changed_of (changed_by result) sheet.new ≡ change sheet.old asked.thread asked.statement asked.least asked.greatest }
 {
-    let index = read_sheet(sheet);
-    if index.refusal == 0 {
-        return change_by(sheet, index, thread, statement, least, greatest);
-    }
-    refused(index.refusal, index.place)
+    let index = read_sheet(sheet)?;
+    change_by(sheet, &index, asked)
+}
+
+// Sets new times on a statement.
+pub fn change_times(sheet: &mut [u8], asked: Asked) -> Changed
+    ensures sheet_after { changed_of result sheet.new ≡ change sheet.old asked.thread asked.statement asked.least asked.greatest }
+    ensures reads_retimed { ReadsRetimed sheet.old asked.thread asked.statement asked.least asked.greatest }
+    ensures comes_back { ComesBack sheet.old asked.thread asked.statement asked.least asked.greatest }
+{
+    Changed::from(change_read(sheet, asked))
 }

@@ -11,34 +11,35 @@ ghost use Rattle.retimed.specs.TakeBackClaims.{ComesBack, AllComeBack};
 ghost use Rattle.retime.specs.Shape.{change_of, eight, EightIn, TwoIn, Leaves};
 
 use label::put_answer;
+use writing::put_front;
 
 mod times; // which times a statement may have, and the four bytes that hold them
 mod find; // a statement by its thread and its number
 mod change; // the change
 mod back; // the change taken back
-mod copying; // a lent buffer of bytes, filled and cleared
 mod preview; // the preview
 
 pub use back::{TakenBack, take_back};
-pub use change::{Change, Changed, change_times};
+pub use change::{Asked, Change, Changed, change_times};
 pub use preview::preview_times;
 
 // The eight numbers of a change at the front of an array that has room for them.
 fn put_change(c: Changed, answer: &mut [u64])
     ensures { answer.new ≡ at_front (eight c.refusal c.place (change_of c.change)) answer.old }
 {
-    if answer.len() < 8 {
-        return;
-    }
-    let did = c.change;
-    answer[0] = c.refusal as u64;
-    answer[1] = c.place as u64;
-    answer[2] = did.thread as u64;
-    answer[3] = did.statement as u64;
-    answer[4] = did.old_least;
-    answer[5] = did.old_greatest;
-    answer[6] = did.new_least;
-    answer[7] = did.new_greatest;
+    put_front(
+        answer,
+        [
+            u64::from(c.refusal),
+            c.place as u64,
+            c.change.thread as u64,
+            c.change.statement as u64,
+            c.change.old_least,
+            c.change.old_greatest,
+            c.change.new_least,
+            c.change.new_greatest,
+        ],
+    );
 }
 
 // The change for callers in C and in Rust: the answer's eight numbers (refusal, place, then what it did: thread, statement, old least,
@@ -58,7 +59,13 @@ pub extern "C" fn zumbeiry_change_times(
     ensures reads_retimed { ReadsRetimed sheet.old thread statement least greatest }
     ensures comes_back { ComesBack sheet.old thread statement least greatest }
 {
-    let c = change_times(sheet, thread, statement, least, greatest);
+    let asked = Asked {
+        thread,
+        statement,
+        least,
+        greatest,
+    };
+    let c = change_times(sheet, asked);
     put_change(c, answer);
     c.refusal
 }
@@ -82,19 +89,15 @@ pub extern "C" fn zumbeiry_take_back(
     ensures all_come_back { AllComeBack sheet.old }
 {
     let change = Change {
-        thread: thread,
-        statement: statement,
-        old_least: old_least,
-        old_greatest: old_greatest,
-        new_least: new_least,
-        new_greatest: new_greatest,
+        thread,
+        statement,
+        old_least,
+        old_greatest,
+        new_least,
+        new_greatest,
     };
     let b = take_back(sheet, change);
-    if answer.len() < 2 {
-        return b.refusal;
-    }
-    answer[0] = b.refusal as u64;
-    answer[1] = b.place as u64;
+    put_front(answer, [u64::from(b.refusal), b.place as u64]);
     b.refusal
 }
 
@@ -115,7 +118,13 @@ pub extern "C" fn zumbeiry_preview(
     ensures leaves { Leaves (Rule.preview sheet.now copy.old work.old thread statement least greatest) sheet.now copy.new work.new }
     ensures holds_retimed { result ≡ 0 → HoldsRetimed sheet.now thread statement least greatest (Rule.preview sheet.now copy.old work.old thread statement least greatest).answer }
 {
-    let a = preview_times(sheet, copy, work, thread, statement, least, greatest);
+    let asked = Asked {
+        thread,
+        statement,
+        least,
+        greatest,
+    };
+    let a = preview_times(sheet, copy, work, asked);
     put_answer(a, answer);
     a.refusal
 }

@@ -1,73 +1,55 @@
 // The two calls on an entry's sheet, and what came of them.
 use crate::buffers::{fill_bytes, filled_bytes, read_part, turn, zero_bytes};
-use crate::entry::{Entry, same_answer, same_change};
-use corpus::{both, copy_bytes, fill, filled, same_bytes, zeros};
+use crate::entry::{Entry, Planted, same_answer, same_change};
+use corpus::{copy_bytes, fill, filled, zeros};
 use retime::{change_times, preview_times};
-
-// What is planted in an entry: after the preview the first byte of the copy buffer is changed, its last, the first number of the work
-// buffer, its last, the first byte of the sheet, its last.
-const COPY_FIRST: u64 = 3;
-
-const COPY_LAST: u64 = 4;
-
-const WORK_FIRST: u64 = 5;
-
-const WORK_LAST: u64 = 6;
-
-const SHEET_FIRST: u64 = 7;
-
-const SHEET_LAST: u64 = 8;
+use std::io::Read;
 
 // What came of an entry: whether the numbers are the stated ones, whether the preview left the buffers zero and the sheet as it was,
-// and whether the sheet after the change is the stated one. An entry that the corpus does not hold whole was not read.
+// and whether the sheet after the change is the stated one.
 #[derive(Clone, Copy)]
 pub(crate) struct Verdict {
-    pub(crate) read: bool,
     pub(crate) numbers: bool,
     pub(crate) clean: bool,
     pub(crate) sheet: bool,
 }
 
-// Where something is to be changed: the length if nowhere.
-fn change_at(planted: u64, first: u64, last: u64, length: usize) -> usize {
+// Where something is to be changed: at the first of so many, at the last, or nowhere.
+fn change_at(planted: Planted, first: Planted, last: Planted, length: usize) -> Option<usize> {
     if planted == first {
-        return 0;
-    }
-    if planted == last {
-        if 0 < length {
-            return length - 1;
-        }
-    }
-    length
-}
-
-fn mark(work: &mut [i32], at: usize) {
-    if at < work.len() {
-        work[at] = 1;
-    }
-}
-
-pub(crate) fn not_read() -> Verdict {
-    Verdict {
-        read: false,
-        numbers: false,
-        clean: false,
-        sheet: false,
+        Some(0)
+    } else if planted == last {
+        length.checked_sub(1)
+    } else {
+        None
     }
 }
 
 // Whether both buffers are all zeros.
-fn cleared(planted: u64, copy: &mut [u8], work: &mut [i32]) -> bool {
-    turn(copy, change_at(planted, COPY_FIRST, COPY_LAST, copy.len()));
-    mark(work, change_at(planted, WORK_FIRST, WORK_LAST, work.len()));
-    both(zero_bytes(copy), zeros(work))
+fn cleared(planted: Planted, copy: &mut [u8], work: &mut [i32]) -> bool {
+    if let Some(at) = change_at(planted, Planted::CopyFirst, Planted::CopyLast, copy.len()) {
+        turn(copy, at);
+    }
+    if let Some(at) = change_at(planted, Planted::WorkFirst, Planted::WorkLast, work.len()) {
+        if let Some(x) = work.get_mut(at) {
+            *x = 1;
+        }
+    }
+    zero_bytes(copy) && zeros(work)
 }
 
 // Whether the sheet is as it was.
-fn kept(planted: u64, sheet: &mut [u8], before: &[u8]) -> bool {
-    let at = change_at(planted, SHEET_FIRST, SHEET_LAST, sheet.len());
+fn kept(planted: Planted, sheet: &mut [u8], before: &[u8]) -> bool {
+    let Some(at) = change_at(
+        planted,
+        Planted::SheetFirst,
+        Planted::SheetLast,
+        sheet.len(),
+    ) else {
+        return *sheet == *before;
+    };
     turn(sheet, at);
-    let same = same_bytes(sheet, before);
+    let same = *sheet == *before;
     turn(sheet, at);
     same
 }
@@ -76,70 +58,46 @@ fn kept(planted: u64, sheet: &mut [u8], before: &[u8]) -> bool {
 fn fill_both(copy: &mut [u8], work: &mut [i32]) -> bool {
     fill_bytes(copy);
     fill(work);
-    both(filled_bytes(copy), filled(work))
+    filled_bytes(copy) && filled(work)
 }
 
-// Buffers that were not full before the preview show nothing, and count as not clean.
+// The preview: whether its numbers are the stated ones, and whether it left all clean. Buffers that were not full before it show nothing,
+// and count as not clean.
 fn preview(
     e: Entry,
     sheet: &mut [u8],
     before: &[u8],
     copy: &mut [u8],
     work: &mut [i32],
-) -> Verdict {
+) -> (bool, bool) {
     let full = fill_both(copy, work);
-    let a = preview_times(
-        sheet,
-        copy,
-        work,
-        e.thread,
-        e.statement,
-        e.least,
-        e.greatest,
-    );
+    let a = preview_times(sheet, copy, work, e.asked);
     let clean = cleared(e.planted, copy, work);
     let same = kept(e.planted, sheet, before);
-    Verdict {
-        read: true,
-        numbers: same_answer(a, e),
-        clean: both(full, both(clean, same)),
-        sheet: false,
-    }
+    (same_answer(a, e), full && clean && same)
 }
 
-// The preview, then the change. The second buffer holds what the sheet was, then what it is to be.
-fn compare_calls(
-    rt: HostRuntime,
+// Both calls: the preview, then the change. The second buffer holds a copy of the sheet to compare with, then what the sheet is to be.
+// None where the corpus does not hold the entry whole.
+pub(crate) fn compare<R: Read>(
+    from: &mut R,
     e: Entry,
     sheet: &mut [u8],
     stated: &mut [u8],
     copy: &mut [u8],
     work: &mut [i32],
-) -> Verdict {
-    let v = preview(e, sheet, stated, copy, work);
-    if !read_part(rt, stated, e.at, e.otherwise) {
-        return not_read();
+) -> Option<Verdict> {
+    if !copy_bytes(sheet, stated) {
+        return None;
     }
-    let c = change_times(sheet, e.thread, e.statement, e.least, e.greatest);
-    Verdict {
-        read: true,
-        numbers: both(v.numbers, same_change(c, e)),
-        clean: v.clean,
-        sheet: same_bytes(sheet, stated),
+    let (numbers, clean) = preview(e, sheet, stated, copy, work);
+    if !read_part(from, stated, e.at, e.otherwise) {
+        return None;
     }
-}
-
-// Both calls, with a copy of the sheet to compare with.
-pub(crate) fn compare(
-    rt: HostRuntime,
-    e: Entry,
-    sheet: &mut [u8],
-    stated: &mut [u8],
-    copy: &mut [u8],
-    work: &mut [i32],
-) -> Verdict {
-    if copy_bytes(sheet, stated) {
-        return compare_calls(rt, e, sheet, stated, copy, work);
-    }
-    not_read()
+    let c = change_times(sheet, e.asked);
+    Some(Verdict {
+        numbers: numbers && same_change(c, e),
+        clean,
+        sheet: *sheet == *stated,
+    })
 }

@@ -1,117 +1,126 @@
 // An entry of the corpus, and its stated numbers against what the library answers.
-use corpus::{eight, four, two, wide};
+ghost use Rattle.std.specs.Prelude.{◌+◌, ◌≤◌};
+
 use label::Answer;
-use retime::Changed;
+use retime::{Asked, Changed};
+
+// The bytes of an entry before those of its sheet.
+pub(crate) const FRONT: usize = 69;
+
+// What is planted in an entry: one of its numbers is wrong, or the stated sheet; or after the preview the program changes the first byte
+// of the copy buffer, its last, the first number of the work buffer, its last, the first byte of the sheet, its last. No corpus has
+// another number there; one would count as a change that is not made.
+#[derive(Clone, Copy, PartialEq, Eq)]
+pub(crate) enum Planted {
+    Nothing,
+    WrongNumber,
+    WrongSheet,
+    CopyFirst,
+    CopyLast,
+    WorkFirst,
+    WorkLast,
+    SheetFirst,
+    SheetLast,
+    Unknown,
+}
+
+impl From<u8> for Planted {
+    fn from(n: u8) -> Planted {
+        match n {
+            0 => Planted::Nothing,
+            1 => Planted::WrongNumber,
+            2 => Planted::WrongSheet,
+            3 => Planted::CopyFirst,
+            4 => Planted::CopyLast,
+            5 => Planted::WorkFirst,
+            6 => Planted::WorkLast,
+            7 => Planted::SheetFirst,
+            8 => Planted::SheetLast,
+            _ => Planted::Unknown,
+        }
+    }
+}
 
 // An entry but for the bytes of its sheet and of what is otherwise after the change, of which these are the lengths. The preview's
 // five numbers are stated, then the change's two.
 #[derive(Clone, Copy)]
 pub(crate) struct Entry {
-    pub(crate) planted: u64,
+    pub(crate) planted: Planted,
     pub(crate) sheet: usize,
     pub(crate) otherwise: usize,
-    pub(crate) thread: usize,
-    pub(crate) statement: usize,
-    pub(crate) least: u64,
-    pub(crate) greatest: u64,
+    pub(crate) asked: Asked,
     pub(crate) copy: usize,
     pub(crate) work: usize,
     pub(crate) at: usize,
-    pub(crate) refusal: u64,
-    pub(crate) place: u64,
-    pub(crate) steps: u64,
-    pub(crate) low: u64,
-    pub(crate) high: u64,
-    pub(crate) change_refusal: u64,
-    pub(crate) change_place: u64,
+    pub(crate) refusal: u32,
+    pub(crate) place: usize,
+    pub(crate) steps: u32,
+    pub(crate) low: u32,
+    pub(crate) high: u32,
+    pub(crate) change_refusal: u32,
+    pub(crate) change_place: usize,
 }
 
-// The numbers of four and eight bytes, each in a function of its own: that is proved sooner than all of them in one.
-fn sheet_in(b: &[u8; 69]) -> usize {
-    four(b[1], b[2], b[3], b[4]) as usize
+// The bytes from a place on, as many as are wanted.
+fn bytes_at<const N: usize>(front: &[u8; FRONT], at: usize) -> [u8; N]
+    requires { at + N ≤ FRONT }
+{
+    let mut bytes = [0; N];
+    bytes.copy_from_slice(&front[at..at + N]);
+    bytes
 }
 
-fn otherwise_in(b: &[u8; 69]) -> usize {
-    four(b[5], b[6], b[7], b[8]) as usize
+// The number of two bytes, of four and of eight from a place on, the high one first.
+fn two_at(front: &[u8; FRONT], at: usize) -> u16
+    requires { at + 2 ≤ FRONT }
+{
+    u16::from_be_bytes(bytes_at(front, at))
 }
 
-fn thread_in(b: &[u8; 69]) -> usize {
-    eight(b[9], b[10], b[11], b[12], b[13], b[14], b[15], b[16]) as usize
+fn four_at(front: &[u8; FRONT], at: usize) -> u32
+    requires { at + 4 ≤ FRONT }
+{
+    u32::from_be_bytes(bytes_at(front, at))
 }
 
-fn statement_in(b: &[u8; 69]) -> usize {
-    eight(b[17], b[18], b[19], b[20], b[21], b[22], b[23], b[24]) as usize
+fn eight_at(front: &[u8; FRONT], at: usize) -> u64
+    requires { at + 8 ≤ FRONT }
+{
+    u64::from_be_bytes(bytes_at(front, at))
 }
 
-fn least_in(b: &[u8; 69]) -> u64 {
-    eight(b[25], b[26], b[27], b[28], b[29], b[30], b[31], b[32])
-}
-
-fn greatest_in(b: &[u8; 69]) -> u64 {
-    eight(b[33], b[34], b[35], b[36], b[37], b[38], b[39], b[40])
-}
-
-fn copy_in(b: &[u8; 69]) -> usize {
-    four(b[41], b[42], b[43], b[44]) as usize
-}
-
-fn work_in(b: &[u8; 69]) -> usize {
-    four(b[45], b[46], b[47], b[48]) as usize
-}
-
-fn steps_in(b: &[u8; 69]) -> u64 {
-    four(b[54], b[55], b[56], b[57])
-}
-
-fn low_in(b: &[u8; 69]) -> u64 {
-    four(b[58], b[59], b[60], b[61])
-}
-
-fn high_in(b: &[u8; 69]) -> u64 {
-    four(b[62], b[63], b[64], b[65])
-}
-
-pub(crate) fn entry_of(b: &[u8; 69]) -> Entry {
+pub(crate) fn entry_of(front: &[u8; FRONT]) -> Entry {
     Entry {
-        planted: wide(b[0]),
-        sheet: sheet_in(b),
-        otherwise: otherwise_in(b),
-        thread: thread_in(b),
-        statement: statement_in(b),
-        least: least_in(b),
-        greatest: greatest_in(b),
-        copy: copy_in(b),
-        work: work_in(b),
-        at: two(b[49], b[50]) as usize,
-        refusal: wide(b[51]),
-        place: two(b[52], b[53]),
-        steps: steps_in(b),
-        low: low_in(b),
-        high: high_in(b),
-        change_refusal: wide(b[66]),
-        change_place: two(b[67], b[68]),
+        planted: Planted::from(front[0]),
+        sheet: four_at(front, 1) as usize,
+        otherwise: four_at(front, 5) as usize,
+        asked: Asked {
+            thread: eight_at(front, 9) as usize,
+            statement: eight_at(front, 17) as usize,
+            least: eight_at(front, 25),
+            greatest: eight_at(front, 33),
+        },
+        copy: four_at(front, 41) as usize,
+        work: four_at(front, 45) as usize,
+        at: usize::from(two_at(front, 49)),
+        refusal: u32::from(front[51]),
+        place: usize::from(two_at(front, 52)),
+        steps: four_at(front, 54),
+        low: four_at(front, 58),
+        high: four_at(front, 62),
+        change_refusal: u32::from(front[66]),
+        change_place: usize::from(two_at(front, 67)),
     }
 }
 
 pub(crate) fn same_answer(a: Answer, e: Entry) -> bool {
-    if a.refusal as u64 != e.refusal {
-        return false;
-    }
-    if a.place as u64 != e.place {
-        return false;
-    }
-    if a.steps as u64 != e.steps {
-        return false;
-    }
-    if a.low as u64 != e.low {
-        return false;
-    }
-    a.high as u64 == e.high
+    a.refusal == e.refusal
+        && a.place == e.place
+        && a.steps == e.steps
+        && a.low == e.low
+        && a.high == e.high
 }
 
 pub(crate) fn same_change(c: Changed, e: Entry) -> bool {
-    if c.refusal as u64 != e.change_refusal {
-        return false;
-    }
-    c.place as u64 == e.change_place
+    c.refusal == e.change_refusal && c.place == e.change_place
 }

@@ -11,24 +11,20 @@ mod buffers;
 mod calls;
 mod entry;
 
-use crate::calls::{Verdict, compare, not_read};
-use crate::entry::{Entry, entry_of};
-use corpus::{both, counted, four, put, read_front};
+use crate::calls::{Verdict, compare};
+use crate::entry::{Entry, FRONT, Planted, entry_of};
+use corpus::{counted, over_entries, put, read_front};
 use files::read_full;
+use std::io::Read;
 
 // Bytes of a sheet and of a copy buffer at most.
 const ROOM: usize = 20000;
 
 const WORK_ROOM: usize = 12000;
 
-// What is planted in an entry: one of its numbers is wrong, or the stated sheet.
-const WRONG_NUMBER: u64 = 1;
-
-const WRONG_SHEET: u64 = 2;
-
 // How many entries are right, and how many of these differ, or were not left clean; how many have a wrong number, a wrong sheet or
-// something changed, and how many of these were noticed; and whether the reading ended before the last.
-#[derive(Clone, Copy)]
+// something changed, and how many of these were noticed.
+#[derive(Clone, Copy, Default)]
 struct Tally {
     compared: u64,
     differ: u64,
@@ -39,148 +35,74 @@ struct Tally {
     sheets_noticed: u64,
     changed: u64,
     changed_noticed: u64,
-    ended: bool,
 }
 
-// Lends the front of the work buffer.
-fn lend_work(
-    rt: HostRuntime,
+// Lends the fronts of the buffers.
+fn lend<R: Read>(
+    from: &mut R,
     e: Entry,
     sheet: &mut [u8],
     stated: &mut [u8],
     copy: &mut [u8],
     work: &mut [i32],
-) -> Verdict {
-    let n = e.work;
-    if work.len() < n {
-        return not_read();
-    }
-    compare(rt, e, sheet, stated, copy, &mut work[..n])
+) -> Option<Verdict> {
+    let sheet = sheet.get_mut(..e.sheet)?;
+    let stated = stated.get_mut(..e.sheet)?;
+    let copy = copy.get_mut(..e.copy)?;
+    let work = work.get_mut(..e.work)?;
+    compare(from, e, sheet, stated, copy, work)
 }
 
-// The same of the copy buffer.
-fn lend_copy(
-    rt: HostRuntime,
-    e: Entry,
-    sheet: &mut [u8],
-    stated: &mut [u8],
-    copy: &mut [u8],
-    work: &mut [i32],
-) -> Verdict {
-    let n = e.copy;
-    if copy.len() < n {
-        return not_read();
-    }
-    lend_work(rt, e, sheet, stated, &mut copy[..n], work)
-}
-
-// The same of both buffers for the sheet.
-fn lend_sheet(
-    rt: HostRuntime,
-    e: Entry,
-    sheet: &mut [u8],
-    stated: &mut [u8],
-    copy: &mut [u8],
-    work: &mut [i32],
-) -> Verdict {
-    let n = e.sheet;
-    if sheet.len() < n {
-        return not_read();
-    }
-    if stated.len() < n {
-        return not_read();
-    }
-    lend_copy(rt, e, &mut sheet[..n], &mut stated[..n], copy, work)
-}
-
-fn added(t: Tally, v: Verdict, planted: u64) -> Tally {
-    let right = planted == 0;
-    let number = planted == WRONG_NUMBER;
-    let sheet = planted == WRONG_SHEET;
-    let changed = planted > WRONG_SHEET;
+fn added(t: Tally, v: Verdict, planted: Planted) -> Tally {
+    let right = planted == Planted::Nothing;
+    let number = planted == Planted::WrongNumber;
+    let sheet = planted == Planted::WrongSheet;
+    let changed = !right && !number && !sheet;
     Tally {
         compared: counted(t.compared, right),
-        differ: counted(t.differ, both(right, !both(v.numbers, v.sheet))),
-        unclean: counted(t.unclean, both(!changed, !v.clean)),
+        differ: counted(t.differ, right && !(v.numbers && v.sheet)),
+        unclean: counted(t.unclean, !changed && !v.clean),
         numbers: counted(t.numbers, number),
-        numbers_noticed: counted(t.numbers_noticed, both(number, !v.numbers)),
+        numbers_noticed: counted(t.numbers_noticed, number && !v.numbers),
         sheets: counted(t.sheets, sheet),
-        sheets_noticed: counted(t.sheets_noticed, both(sheet, both(v.numbers, !v.sheet))),
+        sheets_noticed: counted(t.sheets_noticed, sheet && v.numbers && !v.sheet),
         changed: counted(t.changed, changed),
-        changed_noticed: counted(t.changed_noticed, both(changed, both(v.numbers, !v.clean))),
-        ended: t.ended,
+        changed_noticed: counted(t.changed_noticed, changed && v.numbers && !v.clean),
     }
 }
 
-fn ended(mut t: Tally) -> Tally {
-    t.ended = true;
-    t
-}
-
-// One entry more. One that the corpus does not hold whole ends the reading.
-fn compare_next(
-    rt: HostRuntime,
+// One entry more; none where the corpus does not hold it whole.
+fn compare_next<R: Read>(
+    from: &mut R,
     t: Tally,
     sheet: &mut [u8],
     stated: &mut [u8],
     copy: &mut [u8],
     work: &mut [i32],
-) -> Tally {
-    let mut front = [0u8; 69];
-    if read_full(&mut rt.stdin(), &mut front) < 69 {
-        return ended(t);
+) -> Option<Tally> {
+    let mut front = [0u8; FRONT];
+    if read_full(from, &mut front) < FRONT {
+        return None;
     }
     let e = entry_of(&front);
-    if !read_front(&mut rt.stdin(), sheet, e.sheet) {
-        return ended(t);
+    if !read_front(from, sheet, e.sheet) {
+        return None;
     }
-    let v = lend_sheet(rt, e, sheet, stated, copy, work);
-    if v.read {
-        return added(t, v, e.planted);
-    }
-    ended(t)
-}
-
-fn compare_all(
-    rt: HostRuntime,
-    count: u64,
-    sheet: &mut [u8],
-    stated: &mut [u8],
-    copy: &mut [u8],
-    work: &mut [i32],
-) -> Tally {
-    let mut t = Tally {
-        compared: 0,
-        differ: 0,
-        unclean: 0,
-        numbers: 0,
-        numbers_noticed: 0,
-        sheets: 0,
-        sheets_noticed: 0,
-        changed: 0,
-        changed_noticed: 0,
-        ended: false,
-    };
-    for _ in 0..count {
-        t = compare_next(rt, t, sheet, stated, copy, work);
-        if t.ended {
-            return t;
-        }
-    }
-    t
+    let v = lend(from, e, sheet, stated, copy, work)?;
+    Some(added(t, v, e.planted))
 }
 
 fn main(rt: HostRuntime) {
-    let mut count = [0u8; 4];
-    if read_full(&mut rt.stdin(), &mut count) < 4 {
-        return;
-    }
     let mut sheet = [0u8; ROOM];
     let mut stated = [0u8; ROOM];
     let mut copy = [0u8; ROOM];
     let mut work = [0i32; WORK_ROOM];
-    let n = four(count[0], count[1], count[2], count[3]);
-    let t = compare_all(rt, n, &mut sheet, &mut stated, &mut copy, &mut work);
+    let tally = over_entries(&mut rt.stdin(), Tally::default(), |from, t| {
+        compare_next(from, t, &mut sheet, &mut stated, &mut copy, &mut work)
+    });
+    let Some(t) = tally else {
+        return;
+    };
     put(rt, t.compared, b" changes compared, ");
     put(rt, t.differ, b" differ, ");
     put(

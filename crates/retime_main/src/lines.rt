@@ -1,14 +1,15 @@
 // What the program prints of a sheet, at the front of a buffer.
 ghost use Rattle.std.specs.Prelude.{◌+◌, ◌≤◌, length};
 ghost use Rattle.rules.specs.Constants.{longest_sheet};
+ghost use Rattle.label.specs.Shape.{answer_of};
+ghost use Rattle.rules.specs.Product.{line};
 ghost use Rattle.writing.specs.Out.{Writes, line_of};
 ghost use Rattle.retime.specs.Shape.{change_of, eight};
 ghost use Rattle.retime_main.specs.Line.{sheet_text, longest_printed, printed, longest_written, written, written_back};
 
-use crate::asked::Asked;
-use label::check;
-use retime::{Change, Changed, change_times, preview_times, take_back};
-use writing::{put_bytes, put_five, put_number};
+use label::{Answer, check};
+use retime::{Asked, Change, Changed, change_times, preview_times, take_back};
+use writing::{put_bytes, put_five, put_line};
 
 // Numbers that are lent to each search, and bytes for the copy: as many as the longest sheet has.
 const LENT: usize = 12000;
@@ -21,6 +22,13 @@ pub(crate) const LONGEST_PRINTED: usize = 130;
 // Eight numbers, each of twenty digits and a byte behind them, and a sheet as long as may be read.
 pub(crate) const LONGEST_WRITTEN: usize = 16553;
 
+// The line of an answer's five numbers.
+fn put_answer(out: &mut [u8], from: usize, a: Answer) -> usize
+    ensures { Writes (line (answer_of a)) out.old from out.new result }
+{
+    put_five(out, from, a.refusal, a.place, a.steps, a.low, a.high)
+}
+
 // The two lines of a preview.
 pub(crate) fn preview(sheet: &[u8], a: Asked, out: &mut [u8]) -> usize
     requires { longest_printed ≤ length out.old }
@@ -30,40 +38,29 @@ pub(crate) fn preview(sheet: &[u8], a: Asked, out: &mut [u8]) -> usize
     let mut copy = [0u8; COPY];
     let mut work = [0i32; LENT];
     let now = check(sheet, &mut work);
-    let then = preview_times(
-        sheet,
-        &mut copy,
-        &mut work,
-        a.thread,
-        a.statement,
-        a.least,
-        a.greatest,
-    );
-    let second = put_five(out, 0, now.refusal, now.place, now.steps, now.low, now.high);
-    put_five(
-        out,
-        second,
-        then.refusal,
-        then.place,
-        then.steps,
-        then.low,
-        then.high,
-    )
+    let then = preview_times(sheet, &mut copy, &mut work, a);
+    let second = put_answer(out, 0, now);
+    put_answer(out, second, then)
 }
 
 // The line of a change's eight numbers.
-fn put_line(out: &mut [u8], c: Changed) -> usize
+fn put_change(out: &mut [u8], c: Changed) -> usize
     ensures { Writes (line_of (eight c.refusal c.place (change_of c.change))) out.old 0 out.new result }
 {
-    let did = c.change;
-    let second = put_number(out, 0, c.refusal as usize, b' ');
-    let third = put_number(out, second, c.place, b' ');
-    let fourth = put_number(out, third, did.thread, b' ');
-    let fifth = put_number(out, fourth, did.statement, b' ');
-    let sixth = put_number(out, fifth, did.old_least as usize, b' ');
-    let seventh = put_number(out, sixth, did.old_greatest as usize, b' ');
-    let eighth = put_number(out, seventh, did.new_least as usize, b' ');
-    put_number(out, eighth, did.new_greatest as usize, b'\n')
+    put_line(
+        out,
+        0,
+        &[
+            c.refusal as usize,
+            c.place,
+            c.change.thread,
+            c.change.statement,
+            c.change.old_least as usize,
+            c.change.old_greatest as usize,
+            c.change.new_least as usize,
+            c.change.new_greatest as usize,
+        ],
+    )
 }
 
 // The sheet that is to be written: none behind a refusal.
@@ -82,8 +79,8 @@ pub(crate) fn change(sheet: &mut [u8], a: Asked, out: &mut [u8]) -> usize
     ensures writes { Writes (written sheet.old a.thread a.statement a.least a.greatest) out.old 0 out.new result }
     ensures upper_bound { result ≤ length out.new }
 {
-    let c = change_times(sheet, a.thread, a.statement, a.least, a.greatest);
-    let end = put_line(out, c);
+    let c = change_times(sheet, a);
+    let end = put_change(out, c);
     put_sheet(out, end, c.refusal, sheet)
 }
 
@@ -94,7 +91,6 @@ pub(crate) fn take_back_in(sheet: &mut [u8], c: Change, out: &mut [u8]) -> usize
     ensures upper_bound { result ≤ length out.new }
 {
     let b = take_back(sheet, c);
-    let second = put_number(out, 0, b.refusal as usize, b' ');
-    let end = put_number(out, second, b.place, b'\n');
+    let end = put_line(out, 0, &[b.refusal as usize, b.place]);
     put_sheet(out, end, b.refusal, sheet)
 }

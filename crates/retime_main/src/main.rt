@@ -17,10 +17,10 @@ mod lines; // what is printed
 ghost use Rattle.std.specs.Prelude.{◌+◌, ◌≤◌, length};
 ghost use Rattle.rules.specs.Constants.{longest_sheet};
 
-use crate::asked::{Asked, Back, Given, back_given, times_given, write_given};
+use crate::asked::{back_given, times_given, write_given};
 use crate::lines::{LONGEST_PRINTED, LONGEST_WRITTEN, change, preview, take_back_in};
 use files::{MOST_OF_SHEET, opened, read_sheet, reads_on, tell, word_count};
-use retime::Change;
+use retime::{Asked, Change};
 use std::fs::File;
 use std::io::Print;
 
@@ -61,9 +61,9 @@ fn retime_file(rt: HostRuntime, from: &mut File, a: Asked, writes: bool) {
     }
     if writes {
         put_change(rt, &mut sheet[..n], a);
-        return;
+    } else {
+        put_preview(rt, &sheet[..n], a);
     }
-    put_preview(rt, &sheet[..n], a);
 }
 
 // A change taken back.
@@ -82,7 +82,7 @@ fn usage(rt: HostRuntime) {
 }
 
 fn retime_given(rt: HostRuntime, writes: bool) {
-    let Given::Asks(a) = times_given(rt) else {
+    let Some(a) = times_given(rt) else {
         usage(rt);
         return;
     };
@@ -93,7 +93,7 @@ fn retime_given(rt: HostRuntime, writes: bool) {
 }
 
 fn restore_given(rt: HostRuntime) {
-    let Back::Takes(c) = back_given(rt) else {
+    let Some(c) = back_given(rt) else {
         usage(rt);
         return;
     };
@@ -104,16 +104,9 @@ fn restore_given(rt: HostRuntime) {
 }
 
 fn main(rt: HostRuntime) {
-    let count = word_count(rt);
-    match count {
+    match word_count(rt) {
         6 => retime_given(rt, false),
-        7 => {
-            if write_given(rt) {
-                retime_given(rt, true);
-                return;
-            }
-            usage(rt);
-        }
+        7 if write_given(rt) => retime_given(rt, true),
         8 => restore_given(rt),
         _ => usage(rt),
     }

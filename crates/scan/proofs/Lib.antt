@@ -1,6 +1,6 @@
--- Laws of readings, and of reading a text from a place: words and numbers, names and values, bytes that are written, and results by their cases.
+-- Laws of readings, and of reading a text from a place: words and numbers, bytes that are written, and results by their cases.
+pub mod Opened
 pub mod Readings
 pub mod WordLaws
-pub mod NameLaws
 pub mod WriteLaws
 pub mod BuildLaws

@@ -10,13 +10,12 @@ use Rattle.rules.specs.Format.{Bytes}
 use Rattle.text.specs.Words.{bytes, Read, stop, took, then_read, map_read, spaces, symbol, newline, line_end}
 use Rattle.text.specs.Lines.{range, word_only, head_line}
 use Rattle.scan.specs.Reading.{read_of, same, unit}
-use Rattle.scan.specs.declared.step.Step.{Step}
-use Rattle.scan.specs.declared.step.Step.TheVariants.{Took, Stop}
+use Rattle.std.specs.Prelude.{Result, Ok, Err}
 
-pub as-unit : (s : Bytes) (x : Step) → read_of unit s x ≡ map_read unit (read_of same s x)
+pub as-unit : (s : Bytes) (x : Result (ℕ × ℕ) ℕ) → read_of unit s x ≡ map_read unit (read_of same s x)
 unfolding map_read
-as-unit s (Took v q) = refl
-as-unit s (Stop q) = refl
+as-unit s (Ok (v, q)) = refl
+as-unit s (Err q) = refl
 
 -- ---- what was read replaced
 

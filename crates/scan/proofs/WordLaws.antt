@@ -1,26 +1,27 @@
 -- Words and numbers of a text, read from a place.
 use Rattle.std.specs.Prelude.{if◌then◌else◌}
-use mathlib.Core.Path.{◌≡◌, refl, sym, ap, ◌∙◌}
-use mathlib.Core.Bool.{Bool, true, false, ◌||◌}
+use mathlib.Core.Path.{◌≡◌, refl, sym, ap, subst, ◌∙◌}
+use mathlib.Core.Bool.{Bool, true, false, not, ◌||◌}
 use mathlib.Core.List.{[], ◌∷◌}
-use Prim.Native.Nat.{ℕ, zero, suc, ◌+◌, ◌-◌, ◌*◌, ◌≤◌, ◌<◌}
+use Prim.Native.Nat.{ℕ, zero, suc, ◌+◌, ◌-◌, ◌≤◌, ◌<◌}
 use native.Mathlib.Numerals.{add-one}
 use native.Mathlib.Omega.{arith}
 use native.Mathlib.Decide.{dec_lt}
-use borrow.Author.Tests.{eq-eqb, ne_eqb, lt-ltb, le-ltb, lt-leb}
-use lib.Dec.{T, eqb, ltb, ltb→lt}
+use borrow.Author.Tests.{eq-eqb, ne_eqb, lt-ltb, le-ltb}
+use lib.Dec.{T, eqb, ltb, ltb→lt, eqb→eq}
 use lib.IntN.{pos, negsuc}
 use lib.ListN.{length, drop, get_or, drop_of_length-le}
 use lib.Seq.{drop-cons}
 use Rattle.rules.specs.Format.{Bytes}
 use Rattle.rules.specs.Constants.{half32}
 use Rattle.text.specs.Convert.{fits_signed}
-use Rattle.text.specs.Words.{Read, stop, took, map_read, is_digit, is_letter, spaces, apart, numeral, digits, negative, word, following, whole, or_none, or_whole, spell}
+use Rattle.text.specs.Words.{Read, stop, took, map_read, is_digit, is_letter, apart, numeral, negative, word, following, whole, or_none, or_whole, spell}
 use Rattle.rules.proofs.Interval.{in-range-is}
-use Rattle.scan.specs.Reading.{read_of, same, capped, value_code, word_here}
-use Rattle.scan.specs.declared.step.Step.{Step}
-use Rattle.scan.specs.declared.step.Step.TheVariants.{Took, Stop}
-use Rattle.scan.proofs.Readings.{map-stop, map-took}
+use Rattle.scan.specs.Reading.{read_of, same, unit, capped, value_code, word_here}
+use Rattle.std.specs.Prelude.{Result, Option, Some, None, MatchOption, ◌==◌}
+use Rattle.std.specs.Option.{option_eq}
+use Rattle.std.proofs.Common.{Bor}
+use Rattle.scan.proofs.Readings.{as-unit}
 
 -- the bytes from a place on
 pub here : (s : Bytes) (p : ℕ) → p < length s → drop p s ≡ get_or s p 0 ∷ drop (p + 1) s
@@ -29,41 +30,29 @@ here s p h = rw (add-one, drop-cons s p 0 h)
 pub over : (s : Bytes) (p : ℕ) → length s ≤ p → drop p s ≡ []
 over s p h = drop_of_length-le s h
 
--- ---- spaces
+pub ruleset places = (here, over)
 
-pub spaces-stop : (s : Bytes) (p : ℕ) → p < length s → (get_or s p 0 ≡ 32 → ⊥) → drop p s ≡ spaces (drop p s)
-unfolding spaces
-spaces-stop s p h n = rw (here s p h, ne_eqb (get_or s p 0) 32 n)
+-- what a test says that was turned round
+pub unturned : (x : Bool) {t : Bool} → t ≡ not x → not t ≡ x
+unturned true e = ap not e
+unturned false e = ap not e
 
-pub spaces-more : (s : Bytes) (p : ℕ) → p < length s → get_or s p 0 ≡ 32 → spaces (drop p s) ≡ spaces (drop (p + 1) s)
-unfolding spaces
-spaces-more s p h e = rw (here s p h, eq-eqb (get_or s p 0) 32 e)
+-- the byte at a place, if there is one, is compared with another
+module _ (s : Bytes) (p : ℕ) (b : Bor ℕ) where
+  pub byte-same : (o : Option (Bor ℕ)) → MatchOption o (length s ≤ p) (λ x. (p < length s) × ((d : ℕ) → x.now ≡ get_or s p d))
+      → true ≡ option_eq (λ x y. x.now == y.now) o (Some b) → (p < length s) × (get_or s p 0 ≡ b.now)
+  byte-same None m e = absurd (cc)
+  byte-same (Some x) m e = (m.0, sym (m.1 0) ∙ eqb→eq x.now b.now (subst T e tt))
 
-pub spaces-over : (s : Bytes) (p : ℕ) → length s ≤ p → drop p s ≡ spaces (drop p s)
-unfolding spaces
-spaces-over s p h = rw (over s p h)
+  pub byte-other : (o : Option (Bor ℕ)) → MatchOption o (length s ≤ p) (λ x. (p < length s) × ((d : ℕ) → x.now ≡ get_or s p d))
+      → false ≡ option_eq (λ x y. x.now == y.now) o (Some b) → p < length s → get_or s p 0 ≡ b.now → ⊥
+  byte-other None m e h k = absurd (omega arith)
+  byte-other (Some x) m e h k = let n : eqb x.now b.now ≡ true = eq-eqb x.now b.now (m.1 0 ∙ k) in absurd (cc)
 
 -- ---- where letters or digits would meet
 
-module _ {A : Type 0} (a : A) (s : Bytes) (p : ℕ) where
-  pub apart-over : length s ≤ p → took a (drop p s) ≡ apart a (drop p s)
-  unfolding apart
-  apart-over h = rw (over s p h)
-
-  pub apart-digit : p < length s → is_digit (get_or s p 0) ≡ true → stop (drop p s) ≡ apart a (drop p s)
-  unfolding apart
-  apart-digit h d = rw (here s p h, d)
-
-  pub apart-letter : p < length s → is_digit (get_or s p 0) ≡ false → is_letter (get_or s p 0) ≡ true → stop (drop p s) ≡ apart a (drop p s)
-  unfolding apart
-  apart-letter h d l = rw (here s p h, d, l)
-
-  pub apart_other : p < length s → is_digit (get_or s p 0) ≡ false → is_letter (get_or s p 0) ≡ false → took a (drop p s) ≡ apart a (drop p s)
-  unfolding apart
-  apart_other h d l = rw (here s p h, d, l)
-
 map-choice : {A B : Type 0} (f : A → B) (a : A) (b : Bool) (s : Bytes)
-    → map_read f (Rattle.std.specs.Prelude.if◌then◌else◌ b (stop s) (took a s)) ≡ Rattle.std.specs.Prelude.if◌then◌else◌ b (stop s) (took (f a) s)
+    → map_read f (if◌then◌else◌ b (stop s) (took a s)) ≡ if◌then◌else◌ b (stop s) (took (f a) s)
 unfolding map_read
 map-choice f a true s = refl
 map-choice f a false s = refl
@@ -73,24 +62,14 @@ unfolding apart map_read
 map-apart f a [] = refl
 map-apart f a (b ∷ s) = map-choice f a (is_digit b || is_letter b) (b ∷ s)
 
+pub apart_unit : (s : Bytes) (r : Result (ℕ × ℕ) ℕ) (t : Bytes) (v : ℕ) → read_of same s r ≡ apart v t → read_of unit s r ≡ apart tt t
+apart_unit s r t v h = as-unit s r ∙ ap (map_read unit) h ∙ map-apart unit v t
+
 -- ---- numbers
-
-pub numeral-over : (n v : ℕ) (s : Bytes) (p : ℕ) → v ≡ capped n → length s ≤ p → took v (drop p s) ≡ map_read capped (numeral n (drop p s))
-unfolding numeral map_read
-numeral-over n v s p e h = rw (over s p h, e)
-
-pub numeral-digit : (n : ℕ) (s : Bytes) (p : ℕ) → p < length s → is_digit (get_or s p 0) ≡ true
-    → numeral n (drop p s) ≡ numeral (n * 10 + (get_or s p 0 - 48)) (drop (p + 1) s)
-unfolding numeral
-numeral-digit n s p h d = rw (here s p h, d)
 
 pub numeral-other : (n : ℕ) (s : Bytes) (p : ℕ) → p < length s → is_digit (get_or s p 0) ≡ false → numeral n (drop p s) ≡ apart n (drop p s)
 unfolding numeral
 numeral-other n s p h d = rw (here s p h, d)
-
--- a number kept up to the bound grows as the number does
-pub capped-grows : (n d : ℕ) → capped (capped n * 10 + d) ≡ capped (n * 10 + d)
-capped-grows n d = omega arith
 
 -- below a bound it is the number
 pub capped-below : (k n : ℕ) → k ≤ 4294967296 → ltb (capped n) k ≡ ltb n k
@@ -101,19 +80,6 @@ capped-below k n h = elim (dec_lt n k) [
 
 pub capped_same : (k n : ℕ) → k ≤ 4294967296 → T (ltb (capped n) k) → capped n ≡ n
 capped_same k n h t = let l = ltb→lt (capped n) k t in omega arith
-
-pub digits-over : (s : Bytes) (p : ℕ) → length s ≤ p → stop (drop p s) ≡ map_read capped (digits (drop p s))
-unfolding digits map_read
-digits-over s p h = rw (over s p h)
-
-pub digits-first : (s : Bytes) (p : ℕ) → p < length s → is_digit (get_or s p 0) ≡ true
-    → digits (drop p s) ≡ numeral (get_or s p 0 - 48) (drop (p + 1) s)
-unfolding digits
-digits-first s p h d = rw (here s p h, d)
-
-pub digits-none : (s : Bytes) (p : ℕ) → p < length s → is_digit (get_or s p 0) ≡ false → stop (drop p s) ≡ map_read capped (digits (drop p s))
-unfolding digits map_read
-digits-none s p h d = rw (here s p h, d)
 
 -- ---- values
 
@@ -140,6 +106,8 @@ unfolding value_code fits_signed negative
 negative-large zero h = absurd (omega arith)
 negative-large (suc n) h = let l : half32 ≤ n = omega arith in rw (in-range-is half32 (negsuc n), le-ltb n half32 l)
 
+pub ruleset values = (positive-small, positive-large, negative-zero, negative-small, negative-large)
+
 -- ---- one word
 
 -- what is left of a word at k is looked for at p; the word is over, and it was read
@@ -154,6 +122,12 @@ pub word-other : (w s : Bytes) (k q : ℕ) → k < length w → q < length s →
 unfolding spell following or_none
 word-other w s k q h l n = rw (here s q l, here w k h, ne_eqb (get_or s q 0) (get_or w k 0) n)
 
+pub word-stop : (w s : Bytes) (k q : ℕ) → k < length w → (q < length s → get_or s q 0 ≡ get_or w k 0 → ⊥) → word_here (drop k w) (drop q s) ≡ stop (drop q s)
+word-stop w s k q h n = elim (dec_lt q (length s)) [
+  | yes l ↦ word-other w s k q h l (n l)
+  | no l ↦ word_over (drop k w) s q (omega arith)
+]
+
 word-step : (c : ℕ) (w : Bytes) (b : ℕ) (s : Bytes) → b ≡ c → (0 < length w → word_here (c ∷ w) (b ∷ s) ≡ word_here w s) × (0 ≡ length w → word_here (c ∷ w) (b ∷ s) ≡ took tt s)
 unfolding spell following or_none whole or_whole
 word-step c [] b s e = (λ h. absurd (omega arith), λ h. rw (eq-eqb b c e))
@@ -165,10 +139,6 @@ word_more w s k q g h l e r =
     let y : word_here (drop k w) (drop q s) ≡ word_here (get_or w k 0 ∷ drop (k + 1) w) (get_or s q 0 ∷ drop (q + 1) s) = rw (here s q l, here w k h) in
     let n : length (drop (k + 1) w) ≡ length w - (k + 1) = lib.ListN.length-drop (k + 1) w in
     (λ m. r.0 h ∙ y ∙ x.0 (omega arith), λ m. r.0 h ∙ y ∙ x.1 (omega arith))
-
-pub not_digit : (b : ℕ) → b < 48 → is_digit b ≡ true → ⊥
-unfolding is_digit
-not_digit b h d = let e : false ≡ true = rw (lt-leb 48 b h) at d in let z : ◌≡◌ {A = ℕ} 0 1 = cc in omega arith
 
 -- what a word stands for is of no account to how it is read
 spell-cons : {A : Type 0} (c : ℕ) (w : Bytes) (a : A) (b : ℕ) (s : Bytes) (t : Bool) → eqb b c ≡ t
@@ -204,47 +174,9 @@ pub record SoFar (s : Bytes) (v p w q : ℕ) : Type 0 where
   pub small : w ≤ 4294967296
   pub grown : (n : ℕ) → v ≡ capped n → (m : ℕ) × ((w ≡ capped m) × (numeral n (drop p s) ≡ numeral m (drop q s)))
 
-pub sofar-start : (s : Bytes) (v p : ℕ) → p ≤ length s → v ≤ 4294967296 → SoFar s v p v p
-sofar-start s v p h l = record { on = omega arith; inside = h; small = l; grown = λ n e. (n, (e, refl)) }
-
-pub sofar-more : (s : Bytes) (v p w q : ℕ) {x : ℕ} → SoFar s v p w q → q < length s → is_digit (get_or s q 0) ≡ true
-    → x ≡ capped (w * 10 + (get_or s q 0 - 48)) → x ≤ 4294967296 → SoFar s v p x (q + 1)
-sofar-more s v p w q i h d e l = record {
-  on = let a = i.on in omega arith;
-  inside = omega arith;
-  small = l;
-  grown = λ n f.
-      let g = i.grown n f in
-      let b = get_or s q 0 - 48 in
-      (g.0 * 10 + b, (e ∙ ap (λ k. capped (k * 10 + b)) g.1.0 ∙ capped-grows g.0 b, g.1.1 ∙ numeral-digit g.0 s q h d));
-}
-
-pub sofar-apart : (s : Bytes) (v p w q : ℕ) (r : Step) → SoFar s v p w q → q < length s → is_digit (get_or s q 0) ≡ false
+pub sofar-apart : (s : Bytes) (v p w q : ℕ) (r : Result (ℕ × ℕ) ℕ) → SoFar s v p w q → q < length s → is_digit (get_or s q 0) ≡ false
     → read_of same s r ≡ apart w (drop q s) → (n : ℕ) → v ≡ capped n → read_of same s r ≡ map_read capped (numeral n (drop p s))
 sofar-apart s v p w q r i h d a n e =
     let g = i.grown n e in
     a ∙ ap (λ k. apart k (drop q s)) g.1.0 ∙ sym (map-apart capped g.0 (drop q s))
     ∙ ap (map_read capped) (sym (g.1.1 ∙ numeral-other g.0 s q h d))
-
-pub sofar-over : (s : Bytes) (v p w q : ℕ) → SoFar s v p w q → length s ≤ q → (n : ℕ) → v ≡ capped n
-    → took w (drop q s) ≡ map_read capped (numeral n (drop p s))
-sofar-over s v p w q i h n e = let g = i.grown n e in numeral-over g.0 w s q g.1.0 h ∙ ap (map_read capped) (sym g.1.1)
-
--- ---- a step whose number is replaced
-
-module _ {A : Type 0} (f : A → ℕ) (g : A → ℕ) where
-  pub kept-stop : {x : Step} {q : ℕ} → x ≡ Stop q → (s : Bytes) (h : Read A) → read_of same s x ≡ map_read f h → stop (drop q s) ≡ map_read g h
-  unfolding map_read
-  kept-stop {q = q} e s h k =
-      let z : h ≡ stop (drop q s) = map-stop f h (sym (ap (read_of same s) e) ∙ k) in
-      rw z
-
-  pub kept-took : {x : Step} {v w q : ℕ} → x ≡ Took v q → (s : Bytes) (h : Read A) → read_of same s x ≡ map_read f h
-      → ((a : A) → v ≡ f a → w ≡ g a) → took w (drop q s) ≡ map_read g h
-  unfolding map_read
-  kept-took {v = v} {w} {q} e s h k c =
-      let z = map-took f h (sym (ap (read_of same s) e) ∙ k) in
-      rw z.1.0 (ap (λ n. took n (drop q s)) (c z.0 z.1.1))
-
-pub first-digit : (b x : ℕ) → x ≡ capped (0 * 10 + b) → x ≡ capped b
-first-digit b x e = omega arith

@@ -1,16 +1,14 @@
 -- What a reader in code gives, as the rules' own reading of the bytes that are left.
-use Rattle.std.specs.Prelude.{[], ◌∷◌, ℕ, ◌≤◌, min, ℤ, length, drop, if◌then◌else◌}
+use Rattle.std.specs.Prelude.{[], ◌∷◌, ℕ, ◌≤◌, min, ℤ, length, drop, if◌then◌else◌, Result, Ok, Err}
 use Rattle.rules.specs.Format.{Bytes}
 use Rattle.rules.specs.Encoding.{unsigned}
 use Rattle.text.specs.Words.{Read, stop, took, word, spell}
 use Rattle.text.specs.Convert.{fits_signed}
-use Rattle.scan.specs.declared.step.Step.{Step}
-use Rattle.scan.specs.declared.step.Step.TheVariants.{Took, Stop}
 
--- the code's number stands for what f says
-abbrev pub read_of : {A : Type 0} → (ℕ → A) → Bytes → Step → Read A
-read_of f s (Took v q) = took (f v) (drop q s)
-read_of f s (Stop q) = stop (drop q s)
+-- a number and the place behind it, or the place of the first byte that cannot go on; the code's number stands for what f says
+abbrev pub read_of : {A : Type 0} → (ℕ → A) → Bytes → Result (ℕ × ℕ) ℕ → Read A
+read_of f s (Ok (v, q)) = took (f v) (drop q s)
+read_of f s (Err q) = stop (drop q s)
 
 abbrev pub same : ℕ → ℕ
 same v = v
@@ -21,11 +19,11 @@ unit v = tt
 abbrev pub Onward : Bytes → ℕ → ℕ → Type 0
 Onward s p q = (p ≤ q) × (q ≤ length s)
 
-abbrev pub place_of : Step → ℕ
-place_of (Took v q) = q
-place_of (Stop q) = q
+abbrev pub place_of : Result (ℕ × ℕ) ℕ → ℕ
+place_of (Ok (v, q)) = q
+place_of (Err q) = q
 
-abbrev pub OnwardStep : Bytes → ℕ → Step → Type 0
+abbrev pub OnwardStep : Bytes → ℕ → Result (ℕ × ℕ) ℕ → Type 0
 OnwardStep s p r = Onward s p (place_of r)
 
 -- numbers are kept up to a bound that is past every field's

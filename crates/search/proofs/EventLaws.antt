@@ -1,5 +1,5 @@
 -- What the events from thread t on are, by the statement that the code fetched for it.
-use Rattle.std.specs.Prelude.{if◌then◌else◌}
+use Rattle.std.specs.Prelude.{if◌then◌else◌, Some, None, Result}
 use mathlib.Core.Path.{◌≡◌, refl, sym, ap, subst, ◌∙◌}
 use mathlib.Core.Bool.{Bool, true, false}
 use mathlib.Core.List.{List, ◌∷◌}
@@ -9,139 +9,163 @@ use borrow.Author.Tests.{le-leb, lt-leb}
 use lib.IntN.{ℤ}
 use lib.ListN.{length, get_or}
 use Rattle.rules.specs.Constants.{half32, most_threads}
-use Rattle.rules.specs.Program.{is_halt, Statement, Program}
-use Rattle.rules.specs.Format.{Bytes}
+use Rattle.rules.specs.Program.{is_halt, Statement}
 use Rattle.rules.specs.Search as S
 use Rattle.rules.specs.Search.{ThreadState, Live, unread, states, before, effect, events}
 use Rattle.reader.specs.Facts.{thread_in, statement_in}
 use Rattle.reader.specs.Index.{no_entry}
+use Rattle.field.specs.declared.ticks.Time.{Time}
+use Rattle.field.specs.Ticks.{tick}
+use Rattle.refusal.specs.declared.Refusal.{Refusal}
+use Rattle.refusal.specs.declared.Fault.{Fault}
 use Rattle.state.specs.Access.{thread_at}
-use Rattle.state.specs.Shape.{Sizes, thread_of, sizes_of, state_of}
-use Rattle.state.specs.declared.State.{State}
+use Rattle.state.specs.Shape.{thread_of}
+use Rattle.state.specs.Cells.{decode}
+use Rattle.state.specs.declared.Thread.{Thread}
+use Rattle.state.proofs.Slot.{decode-sound}
 use Rattle.state.proofs.Shape.{state-thread, state-threads-length, sizes-threads, sizes-regs}
-use Rattle.event.specs.Plan.{Planned}
 use Rattle.event.specs.Fetch.{names_of, Fetches, OfProgram}
 use Rattle.event.proofs.fetch.Asks.{of-program}
 use Rattle.event.specs.Push.{Room}
 use Rattle.event.specs.Act.{Asks, Acts}
-use Rattle.event.specs.declared.plan.Plan.{Plan}
 use Rattle.event.specs.declared.act.Event.{Event}
-use Rattle.event.specs.declared.act.Acted.{Acted}
 use Rattle.event.specs.declared.fetch.Fetched.{Fetched}
 use Rattle.search.specs.Survey.{earliest_of, earliest_at}
-use Rattle.search.specs.Turn.{live_after, Makes, height_of, over_of, event_of}
-use Rattle.search.specs.declared.turn.Made.{Made}
+use Rattle.search.specs.Taken.{IsReady, program_of, sizes_in, rules_state, live_in}
+use Rattle.search.specs.Turn.{Makes, height_of, over_of, event_of, events_in}
+use Rattle.search.specs.declared.taken.Taken.{Taken}
 use Rattle.search.proofs.TurnLaws.{live-step, events-halted, events-passed, events-before, over-makes}
 
--- the state s of the code, which has four threads, and thread t of the program
-module _ (g : Program) (s : State) (t : ℕ) (there : t < length g.threads) (few : length g.threads ≤ most_threads) (four : length s.threads ≡ most_threads) where
-  abbrev rules-state : S.State
-  rules-state = state_of (sizes_of g) s
+-- a thread that halts has no earliest tick; another's is its clock's low end and its statement's least time
+halts_at : (h : Bool) (low least : ℕ) → earliest_of h low least ≡ None → h ≡ true
+halts_at true low least e = refl
+halts_at false low least e = absurd (cc e)
+
+lives_at : (h : Bool) (low least : ℕ) (x : Time) → earliest_of h low least ≡ Some x → (h ≡ false) × (x.0 ≡ low + least)
+lives_at true low least x e = absurd (cc e)
+lives_at false low least x e = let f : tick (low + least) ≡ x = cc e in (refl, ap (λ (y : Time). y.0) (sym f))
+
+-- thread t of the state x
+module _ (x : Taken) (t : ℕ) (ready : IsReady x) (there : t < length (program_of x).threads) where
+  abbrev thread : Thread
+  thread = thread_at (decode x.cells.now) t
 
   abbrev stands : ThreadState
-  stands = thread_of (length (thread_in g t).regs) (thread_at s t)
+  stands = thread_of (length (thread_in (program_of x) t).regs) thread
 
   abbrev statement : Statement
-  statement = statement_in g t (thread_at s t).at
-
-  in-sizes : t < length (sizes_of g).regs
-  in-sizes = let a = sizes-threads g in omega arith
-
-  few-sizes : length (sizes_of g).regs ≤ most_threads
-  few-sizes = let a = sizes-threads g in omega arith
-
-  thread-here : get_or rules-state.threads t stands ≡ stands
-  thread-here = state-thread (sizes_of g) s t stands in-sizes few-sizes four ∙ ap (λ (n : ℕ). thread_of n (thread_at s t)) (sizes-regs g t)
-
-  in-state : t < length rules-state.threads
-  in-state = let a = state-threads-length (sizes_of g) s few-sizes four in let b = sizes-threads g in omega arith
-
-  abbrev live_here : Live
-  live_here = record { thread = t; here = stands; statement = statement }
+  statement = statement_in (program_of x) t thread.at
 
   abbrev halted : Bool
   halted = is_halt statement.action
 
-  live_at : live_after g rules-state t ≡ (if halted then live_after g rules-state (suc t) else live_here ∷ live_after g rules-state (suc t))
+  abbrev live_here : Live
+  live_here = record { thread = t; here = stands; statement = statement }
+
+  in-sizes : t < length (sizes_in x).regs
+  in-sizes = let a = sizes-threads (program_of x) in omega arith
+
+  few-sizes : length (sizes_in x).regs ≤ most_threads
+  few-sizes = let a = sizes-threads (program_of x) in let b = ready.facts.threads_few in omega arith
+
+  four : length (decode x.cells.now).threads ≡ most_threads
+  four = (decode-sound x.cells.now).four
+
+  thread-here : get_or (rules_state x).threads t stands ≡ stands
+  thread-here = state-thread (sizes_in x) (decode x.cells.now) t stands in-sizes few-sizes four ∙ ap (λ (n : ℕ). thread_of n thread)
+      (sizes-regs (program_of x) t)
+
+  in-state : t < length (rules_state x).threads
+  in-state =
+      let a = state-threads-length (sizes_in x) (decode x.cells.now) few-sizes four in
+      let b = sizes-threads (program_of x) in
+      omega arith
+
+  live_at : live_in x t ≡ (if halted then live_in x (suc t) else live_here ∷ live_in x (suc t))
   live_at =
-      subst (λ (x : ThreadState). live_after g rules-state t ≡ (if is_halt (statement_in g t x.at).action then live_after g rules-state (suc t)
-      else record { thread = t; here = x; statement = statement_in g t x.at } ∷ live_after g rules-state (suc t))) thread-here (live-step g rules-state t stands there in-state)
+      subst (λ (y : ThreadState). live_in x t ≡ (if is_halt (statement_in (program_of x) t y.at).action then live_in x (suc t)
+      else record { thread = t; here = y; statement = statement_in (program_of x) t y.at } ∷ live_in x (suc t)))
+      thread-here (live-step (program_of x) (rules_state x) t stands there in-state)
 
   module _ (latest bound : ℕ) where
     abbrev from : ℕ
-    from = max latest ((thread_at s t).clock.low.0 + statement.least)
+    from = max latest (thread.clock.low.0 + statement.least)
 
-    abbrev made-from : ℕ → S.Turn
-    made-from k = events rules-state latest bound (live_after g rules-state k)
+    -- one that halts, or may not move in time, has no event
+    pub none-halted : earliest_at x t ≡ None → events_in x latest bound t ≡ events_in x latest bound (suc t)
+    none-halted e =
+        ap (events (rules_state x) latest bound) live_at
+        ∙ events-halted (rules_state x) latest bound halted live_here (live_in x (suc t))
+        (halts_at halted thread.clock.low.0 statement.least e)
 
-    none-by : (h : Bool) → halted ≡ h → bound < max latest (earliest_of h (thread_at s t).clock.low.0 statement.least) → made-from t ≡ made-from (suc t)
-    none-by true e l = ap (events rules-state latest bound) live_at ∙ events-halted rules-state latest bound halted live_here (live_after g rules-state (suc t)) e
-    none-by false e l =
-        ap (events rules-state latest bound) live_at
-        ∙ events-passed rules-state latest bound halted live_here (live_after g rules-state (suc t)) e (lt-leb from bound l)
+    pub none-late : (earliest : Time) → earliest_at x t ≡ Some earliest → bound < max latest earliest.0
+        → events_in x latest bound t ≡ events_in x latest bound (suc t)
+    none-late earliest e l =
+        let lives = lives_at halted thread.clock.low.0 statement.least earliest e in
+        ap (events (rules_state x) latest bound) live_at
+        ∙ events-passed (rules_state x) latest bound halted live_here (live_in x (suc t)) lives.0
+        (lt-leb from bound (subst (λ (n : ℕ). bound < max latest n) lives.1 l))
 
-    -- one that halts or may not move in time has no event
-    pub no_event : bound < max latest (earliest_at g s t) → made-from t ≡ made-from (suc t)
-    no_event = none-by halted refl
-
-    live-by : (h : Bool) → max latest (earliest_of h (thread_at s t).clock.low.0 statement.least) ≤ bound → bound < half32
-        → (h ≡ false) × (earliest_of h (thread_at s t).clock.low.0 statement.least ≡ (thread_at s t).clock.low.0 + statement.least)
-    live-by true l u = absurd (omega arith)
-    live-by false l u = (refl, refl)
-
-    pub has-event : max latest (earliest_at g s t) ≤ bound → bound < half32 → (halted ≡ false) × (earliest_at g s t ≡ (thread_at s t).clock.low.0 + statement.least)
-    has-event = live-by halted
-
-    event-before : halted ≡ false → from ≤ bound → made-from t ≡ before statement.place (effect rules-state t stands from bound statement.action) (made-from (suc t))
+    event-before : halted ≡ false → from ≤ bound
+        → events_in x latest bound t ≡ before statement.place (effect (rules_state x) t stands from bound statement.action)
+        (events_in x latest bound (suc t))
     event-before h l =
-        ap (events rules-state latest bound) live_at
-        ∙ events-before rules-state latest bound halted live_here (live_after g rules-state (suc t)) h (le-leb from bound l)
+        ap (events (rules_state x) latest bound) live_at
+        ∙ events-before (rules_state x) latest bound halted live_here (live_in x (suc t)) h (le-leb from bound l)
 
--- ---- what the code asks of a thread's event, and what it makes of it
+  -- ---- what the code asks of its event, and what it makes of it
 
-module _ (bs : Bytes) (g : Program) (p : Plan) (places : List ℕ) (r : Planned bs g p places) (s : State) (t : ℕ) (there : t < length g.threads)
-    (from to : ℕ) (f : Fetched) (fetched : Fetches bs (names_of g t) (thread_at s t).at (statement_in g t (thread_at s t).at) f) where
-  abbrev its-event : Event
-  its-event = event_of (get_or p.entries t no_entry).registers t from to
+  module _ {f : Fetched} (fetched : Fetches x.sheet.now (names_of (program_of x) t) thread.at statement f) (start end : ℕ) where
+    abbrev its-event : Event
+    its-event = event_of (get_or x.plan.entries t no_entry).registers t start end
 
-  pub act-asks : from ≤ to → to < half32 → (b : List ℤ) (slots height : ℕ) → Room slots b → height ≤ slots + 1 → (v : Event) → v ≡ its-event
-      → Asks v b height slots × (OfProgram g v.thread v.registers × ((x : Statement) × Fetches bs (names_of g v.thread) (thread_at s v.thread).at x f))
-  act-asks l u b slots height room high v q =
-      subst (λ (w : Event). Asks w b height slots × (OfProgram g w.thread w.registers × ((x : Statement) × Fetches bs (names_of g w.thread) (thread_at s w.thread).at x f))) (sym q) (
-        record {
-          ticks = record { thread = let a = r.facts.threads_few in omega arith; from_small = omega arith; to_small = u };
-          room = room;
-          high = high;
-        },
-        (of-program bs g p places r t there, (statement_in g t (thread_at s t).at, fetched)),
-      )
+    -- the event v is to be one of the program, for the statement that was fetched
+    abbrev pub Due : Event → Type 0
+    Due v =
+        OfProgram (program_of x) v.thread v.registers
+        × ((st : Statement) × Fetches x.sheet.now (names_of (program_of x) v.thread) (thread_at (decode x.cells.now) v.thread).at st f)
 
-  pub event-makes : length s.threads ≡ most_threads → (latest : ℕ) → from ≡ max latest (earliest_at g s t) → from ≤ to → to < half32
-      → (slots : ℕ) (c d : List ℤ) (height : ℕ) (v : Event) → v ≡ its-event → (k : Acted)
-      → Acts (sizes_of g) slots c d height k
-      (effect (state_of (sizes_of g) s) v.thread (thread_of v.registers (thread_at s v.thread)) v.from.0 v.to.0 (statement_in g t (thread_at s t).at).action)
-      → (b : List ℤ) (h : ℕ) (later m : Made) → height ≡ height_of later h → m ≡ over_of later k f.place
-      → Makes (sizes_of g) slots b h c later (events (state_of (sizes_of g) s) latest to (live_after g (state_of (sizes_of g) s) (suc t)))
-      → Makes (sizes_of g) slots b h d m (events (state_of (sizes_of g) s) latest to (live_after g (state_of (sizes_of g) s) t))
-  event-makes four latest q l u slots c d height v e k acts b h later m eh em makes =
-      let has = has-event g s t there r.facts.threads_few four latest to (subst (λ (n : ℕ). n ≤ to) q l) u in
-      let q' : from ≡ max latest ((thread_at s t).clock.low.0 + (statement_in g t (thread_at s t).at).least) = q ∙ ap (max latest) has.1 in
-      let z = sizes_of g in
-      let x = state_of z s in
-      let action = (statement_in g t (thread_at s t).at).action in
-      let T = events x latest to (live_after g x (suc t)) in
-      let N : S.Next = effect x t (thread_of (length (thread_in g t).regs) (thread_at s t)) from to action in
-      let a₁ : Acts z slots c d height k (effect x t (thread_of (get_or p.entries t no_entry).registers (thread_at s t)) from to action) =
-      subst (λ (w : Event). Acts z slots c d height k (effect x w.thread (thread_of w.registers (thread_at s w.thread)) w.from.0 w.to.0 action)) e acts in
-      let a₂ : Acts z slots c d height k N = subst (λ (n : ℕ). Acts z slots c d height k (effect x t (thread_of n (thread_at s t)) from to action)) (of-program bs g p places r t there).registers a₁ in
-      let a₃ : Acts z slots c d (height_of later h) k N = subst (λ (n : ℕ). Acts z slots c d n k N) eh a₂ in
-      let made : Makes z slots b h d (over_of later k f.place) (before f.place N T) = over-makes z slots b c d h later T f.place k N makes a₃ in
-      let same : events x latest to (live_after g x t) ≡ before f.place N T =
-      event-before g s t there r.facts.threads_few four latest to has.0 (subst (λ (n : ℕ). n ≤ to) q' l)
-      ∙ ap (λ (n : ℕ). before n (effect x t (thread_of (length (thread_in g t).regs) (thread_at s t)) (max latest ((thread_at s t).clock.low.0 + (statement_in g t (thread_at s t).at).least)) to action) T) (sym fetched.place)
-      ∙ ap (λ (n : ℕ). before f.place (effect x t (thread_of (length (thread_in g t).regs) (thread_at s t)) n to action) T) (sym q') in
-      subst (λ (w : Made). Makes z slots b h d w (events x latest to (live_after g x t))) (sym em) (subst (Makes z slots b h d (over_of later k f.place)) (sym same) made)
+    pub act-asks : {v : Event} → v ≡ its-event → start ≤ end → end < half32 → {b : List ℤ} {slots height : ℕ} → Room slots b
+        → height ≤ slots + 1
+        → Asks v b height slots × Due v
+    act-asks {v} q l u {b} {slots} {height} room high =
+        subst (λ (w : Event). Asks w b height slots × Due w) (sym q) (
+          record {
+            ticks = record { thread = let a = ready.facts.threads_few in omega arith; from_small = omega arith; to_small = u };
+            room = room;
+            high = high;
+          },
+          (of-program x.sheet.now (program_of x) x.plan x.places.now ready t there, (statement, fetched)),
+        )
 
-pub acts-length : (z : Sizes) (slots : ℕ) (b c : List ℤ) (h : ℕ) (k : Acted) (n : S.Next) → Acts z slots b c h k n → length c ≡ length b
-acts-length z slots b c h k (unread q) a = ap length a.1
-acts-length z slots b c h k (states xs) a = a.2.same_length
+    -- what is fetched for the event
+    pub fetched-for : {v : Event} → v ≡ its-event
+        → Fetches x.sheet.now (names_of (program_of x) v.thread) (thread_at (decode x.cells.now) v.thread).at statement f
+    fetched-for q = subst (λ (w : Event). Fetches x.sheet.now (names_of (program_of x) w.thread)
+        (thread_at (decode x.cells.now) w.thread).at statement f) (sym q) fetched
+
+    -- what the rules make of an event for the statement
+    abbrev pub effect_of : Event → S.Next
+    effect_of v = effect (rules_state x) v.thread (thread_of v.registers
+        (thread_at (decode x.cells.now) v.thread)) v.from.0 v.to.0 statement.action
+
+    effect-is : {v : Event} → v ≡ its-event → effect_of v ≡ effect (rules_state x) t stands start end statement.action
+    effect-is {v} q =
+        ap effect_of q
+        ∙ ap (λ (n : ℕ). effect (rules_state x) t (thread_of n thread) start end statement.action)
+        (of-program x.sheet.now (program_of x) x.plan x.places.now ready t there).registers
+
+    pub event-makes : {v : Event} → v ≡ its-event → (latest : ℕ) (earliest : Time) → earliest_at x t ≡ Some earliest
+        → start ≡ max latest earliest.0 → start ≤ end
+        → (slots : ℕ) (b c d : List ℤ) (h height : ℕ) (later : Result ℕ Fault) (k : Result ℕ Refusal) → height ≡ height_of later h
+        → Makes (sizes_in x) slots b h c later (events_in x latest end (suc t)) → Acts (sizes_in x) slots c d height k (effect_of v)
+        → Makes (sizes_in x) slots b h d (over_of later k f.place) (events_in x latest end t)
+    event-makes {v} q latest earliest lives at_start l slots b c d h height later k e makes acts =
+        let live = lives_at halted thread.clock.low.0 statement.least earliest lives in
+        let from-is : start ≡ from latest end = at_start ∙ ap (max latest) live.1 in
+        let same : events_in x latest end t ≡ before f.place (effect_of v) (events_in x latest end (suc t)) =
+        event-before latest end live.0 (subst (λ (n : ℕ). n ≤ end) from-is l)
+        ∙ (λ i. before (sym fetched.place i) (effect (rules_state x) t stands (sym from-is i) end statement.action)
+        (events_in x latest end (suc t)))
+        ∙ ap (λ (n : S.Next). before f.place n (events_in x latest end (suc t))) (sym (effect-is q)) in
+        rw same (over-makes (sizes_in x) slots b c d h later (events_in x latest end (suc t)) f.place k (effect_of v) makes (rw e at acts))

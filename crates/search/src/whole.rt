@@ -1,5 +1,5 @@
 // The search of a whole sheet: it is read, searched from its starting state, and the buffer is cleared.
-ghost use Rattle.std.specs.Prelude.{◌≡◌, ◌/◌, length};
+ghost use Rattle.std.specs.Prelude.{◌≡◌, ◌/◌, length, Ok};
 ghost use Rattle.rules.specs.Constants.{numbers_per_state};
 ghost use Rattle.rules.specs.Format.{read_sheet};
 ghost use Rattle.rules.specs.Search.{search_from};
@@ -10,77 +10,78 @@ ghost use Rattle.event.specs.Push.{Room};
 ghost use Rattle.search.specs.Run.{end_of};
 ghost use Rattle.search.specs.Whole.{end_with, search_of, searched_of};
 
-use crate::run::{Outcome, search};
+use crate::run::{Outcome, refused, search, without_place};
 use event::plan::Plan;
 use field::Time;
 use reader::{Index, read_sheet};
-use refusal::Refusal;
+use refusal::{Fault, Refusal};
 use state::{NUMBERS_PER_STATE, clear, start};
 
-// The ticks that a sheet's label allows.
+// The ticks that a sheet's label allows. It is no `Window`: what is allowed never stands for what was found.
 #[derive(Clone, Copy)]
 pub struct Label {
     pub low: Time,
     pub high: Time,
 }
 
-// The refusal of a sheet that does not read, as its number and its place; or the label of one that reads, and how its search
-// ended.
+// The label of a sheet that reads, and how its search ended.
 #[derive(Clone, Copy)]
-pub enum Searched {
-    Unread(u32, usize),
-    Ended(Label, Outcome),
+pub struct Searched {
+    pub label: Label,
+    pub outcome: Outcome,
 }
 
 // The search of a sheet that reads, by its index, on a stack of so many slots.
 fn search_index(sheet: &[u8], index: Index, work: &mut [i32], slots: usize) -> Outcome
-    requires { (index ≡ index_of (read_sheet sheet.now)) × ((index.refusal ≡ 0) × Room slots work.old) }
+    requires { (index_of (read_sheet sheet.now) ≡ Ok index) × Room slots work.old }
     ensures result_value { end_of result ≡ search_from (program_in sheet.now) slots }
     ensures work_len_unchanged { length work.new ≡ length work.old }
 {
     let first = start(sheet, index);
-    let places = index.places;
-    let limit = index.limit;
-    let entries = index.entries;
     let plan = Plan {
         threads: index.threads,
-        limit: limit,
-        entries: entries,
+        limit: index.limit,
+        entries: index.entries,
     };
-    search(sheet, &places, plan, first, index.budget, work, slots)
+    search(sheet, &index.places, plan, first, index.budget, work, slots)
 }
 
 // The same on the slots that the buffer has; where it has none, there is no room for the starting state.
+#[tactic(auto, unfolding(crate::specs::Whole::end_with))]
 fn search_slots(sheet: &[u8], index: Index, work: &mut [i32]) -> Outcome
-    requires { (index ≡ index_of (read_sheet sheet.now)) × (index.refusal ≡ 0) }
+    requires { index_of (read_sheet sheet.now) ≡ Ok index }
     ensures result_value { end_of result ≡ end_with (length work.old / numbers_per_state) (program_in sheet.now) }
     ensures work_len_unchanged { length work.new ≡ length work.old }
 {
     let slots = work.len() / NUMBERS_PER_STATE;
     if slots == 0 {
-        return Outcome::Fails(Refusal::OutOfRoom, 0, 0);
+        return refused(0, without_place(Refusal::OutOfRoom));
     }
     search_index(sheet, index, work, slots)
 }
 
+// Reads a sheet and searches it; the buffer is left as the search leaves it.
+fn search_read(sheet: &[u8], work: &mut [i32]) -> Result<Searched, Fault>
+    ensures result_value { searched_of result ≡ search_of (length work.old / numbers_per_state) (read_sheet sheet.now) }
+    ensures work_len_unchanged { length work.new ≡ length work.old }
+{
+    let index = read_sheet(sheet)?;
+    Ok(Searched {
+        label: Label {
+            low: index.label_low,
+            high: index.label_high,
+        },
+        outcome: search_slots(sheet, index, work),
+    })
+}
+
 // Searches any bytes on a buffer of any length, which is all zeros afterwards.
-pub fn search_sheet(sheet: &[u8], work: &mut [i32]) -> Searched
+pub fn search_sheet(sheet: &[u8], work: &mut [i32]) -> Result<Searched, Fault>
     ensures result_value { searched_of result ≡ search_of (length work.old / numbers_per_state) (read_sheet sheet.now) }
     ensures all_zeros { AllZeros work.old work.new }
     ensures unchanged { Unchanged sheet.now sheet.now }
 {
-    let index = read_sheet(sheet);
-    if index.refusal == 0 {
-        let o = search_slots(sheet, index, work);
-        clear(work);
-        let low = index.label_low;
-        let high = index.label_high;
-        let label = Label {
-            low: low,
-            high: high,
-        };
-        return Searched::Ended(label, o);
-    }
+    let searched = search_read(sheet, work);
     clear(work);
-    Searched::Unread(index.refusal, index.place)
+    searched
 }

@@ -139,3 +139,6 @@ pair-in-file f at (got x q) h = let a = h.place in let b = h.sheet.fits in omega
 
 pub look-in-file : (f : Bytes) (name : ℕ) → InFile f (look_in name f)
 look-in-file f name = look-each f name (InFile f) tt (λ at. pair-in-file f at (read_pair f at) (pair-says f at))
+
+-- what the search is given for `find_in`
+pub ruleset file_laws = (look-in-file)

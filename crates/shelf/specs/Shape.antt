@@ -1,56 +1,55 @@
 -- The code's data as the rule's, and what it is for a slice to be a part of one that was lent.
-use Rattle.std.specs.Prelude.{◌≡◌, List, [], ◌∷◌, ◌++◌, ℕ, ◌+◌, ◌≤◌, eqb, length, if◌then◌else◌}
+use Rattle.std.specs.Prelude.{◌≡◌, List, [], ◌∷◌, ◌++◌, ℕ, ◌+◌, ◌≤◌, length, Option, Some, None, Result, Ok, Err}
 use Rattle.std.specs.Borrow.{Bor}
 use Rattle.rules.specs.Base.{at_front}
-use Rattle.rules.specs.Refusal as R
-use Rattle.rules.specs.Refusal.{number}
 use Rattle.rules.specs.Format.{Bytes, Got, bad, got}
-use Rattle.refusal.specs.Shape.{refusal_of}
+use Rattle.refusal.specs.declared.Fault.{Fault}
+use Rattle.refusal.specs.Shape.{rule_of, fault_at}
 use Rattle.shelf.specs.Pairs as P
 use Rattle.shelf.specs.Pairs.{hit, miss, stop}
 use Rattle.shelf.specs.Lookup as L
-use Rattle.shelf.specs.Lookup.{Part, Answer, customers, ours, file_number, file_of, bytes_of, empty_start}
+use Rattle.shelf.specs.Lookup.{Part, Answer, customers, ours, file_number, file_of, bytes_of, found, refused}
 use Rattle.shelf.specs.declared.File.{File}
 use Rattle.shelf.specs.declared.File.TheVariants.{Customers, Ours}
+use Rattle.shelf.specs.declared.Found.{Found}
+use Rattle.shelf.specs.declared.Refused.{Refused}
 use Rattle.shelf.specs.declared.Numbers.{Numbers}
 use Rattle.shelf.specs.declared.pairs.Pair.{Pair}
-use Rattle.shelf.specs.declared.pairs.Pair.TheVariants as pair
-use Rattle.shelf.specs.declared.pairs.Look.{Look}
-use Rattle.shelf.specs.declared.pairs.Look.TheVariants as look
+use Rattle.shelf.specs.declared.pairs.Sheet.{Sheet}
 
 -- ---- one file
 
-unfoldable pub pair_of : Got P.Pair → Pair
-pair_of (bad r p) = pair.Refused (refusal_of r) p
-pair_of (got x q) = pair.Read x.name x.place x.size
+abbrev pub sheet : ℕ → ℕ → Sheet
+sheet p n = record { place = p; size = n }
 
-unfoldable pub look_of : P.Look → Look
-look_of (hit p n) = look.Hit p n
-look_of miss = look.Miss
-look_of (stop r p) = look.Stop (refusal_of r) p
+abbrev pub pair_of : Got P.Pair → Result Pair Fault
+pair_of (bad r p) = Err (fault_at r p)
+pair_of (got x q) = Ok (record { name = x.name; sheet = sheet x.place x.size })
+
+abbrev pub look_of : P.Look → Result (Option Sheet) Fault
+look_of (hit p n) = Ok (Some (sheet p n))
+look_of miss = Ok None
+look_of (stop r p) = Err (fault_at r p)
 
 -- ---- both files
-
-abbrev pub code_file : L.File → File
-code_file customers = Customers
-code_file ours = Ours
 
 abbrev pub rule_file : File → L.File
 rule_file Customers = customers
 rule_file Ours = ours
 
-abbrev pub found_as : File → ℕ → ℕ → Numbers
-found_as f p n = record { refusal = 0; file = f; place = p; size = n }
+-- what the look in a file comes to, with the file
+abbrev pub found_in : File → P.Look → Result (Option Found) Refused
+found_in f (hit p n) = Ok (Some (record { file = f; sheet = sheet p n }))
+found_in f miss = Ok None
+found_in f (stop r p) = Err (record { file = f; fault = fault_at r p })
 
-abbrev pub refused_as : File → R.Refusal → ℕ → Numbers
-refused_as f r p = record { refusal = number r; file = f; place = p; size = 0 }
+-- the rule's answer that is meant, and an answer in numbers
+abbrev pub answer_of : Result Found Refused → Answer
+answer_of (Ok x) = found (rule_file x.file) x.sheet.place x.sheet.size
+answer_of (Err y) = refused (rule_file y.file) (rule_of y.fault.refusal) y.fault.place
 
--- the rule's answer in numbers, and the part that these numbers name
 abbrev pub numbers_of : Answer → Numbers
-numbers_of a = record { refusal = a.refusal; file = code_file a.file; place = a.place; size = a.part.size }
-
-abbrev pub part_of : Numbers → Part
-part_of x = if eqb x.refusal 0 then record { file = rule_file x.file; from = x.place; size = x.size } else empty_start
+numbers_of a = record { refusal = a.refusal; file = file_number a.file; place = a.place; size = a.part.size }
 
 -- ---- a part, as a slice of a slice that was lent
 

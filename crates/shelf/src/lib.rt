@@ -3,14 +3,15 @@
 
 mod pairs; // one file
 
-ghost use Rattle.std.specs.Prelude.{◌≡◌};
+ghost use Rattle.std.specs.Prelude.{◌≡◌, ◌+◌, ◌≤◌, length, IfOk, IfSome};
 ghost use Rattle.rules.specs.Demands.{Unchanged};
-ghost use Rattle.refusal.specs.Shape.{rule_of};
+ghost use Rattle.shelf.specs.Pairs.{look_in};
 ghost use Rattle.shelf.specs.Lookup as Rule;
-ghost use Rattle.shelf.specs.Shape.{rule_file, found_as, refused_as, numbers_of, part_of, Fits, IsPart, three_of, FourIn};
+ghost use Rattle.shelf.specs.Shape.{rule_file, found_in, answer_of, numbers_of, Fits, IsPart, three_of, FourIn};
 
-use crate::pairs::{Look, look_in};
-use refusal::{Refusal, number_of};
+use crate::pairs::{Sheet, look_in};
+use refusal::{Fault, Refusal};
+use writing::put_front;
 
 // The customer's file, or the house's.
 #[derive(Clone, Copy)]
@@ -19,87 +20,87 @@ enum File {
     Ours,
 }
 
-// The answer in numbers. Refusal 0: the sheet stands in the file from the place on, so many bytes. Another: the file and the place at
-// fault (of 5: ours and 0), and 0 bytes.
+// 0 the customer's file, 1 ours.
+impl From<File> for u64 {
+    ghost from_gives = { λ f n. n ≡ Rule.file_number (rule_file f) };
+
+    fn from(f: File) -> u64 {
+        match f {
+            File::Customers => 0,
+            File::Ours => 1,
+        }
+    }
+}
+
+// The file in which a sheet was found, and where.
+#[derive(Clone, Copy)]
+struct Found {
+    file: File,
+    sheet: Sheet,
+}
+
+// The file that a lookup is refused for, and what is at fault there; where both files lack the name: ours, at 0.
+#[derive(Clone, Copy)]
+struct Refused {
+    file: File,
+    fault: Fault,
+}
+
+// The answer in numbers, as C gets them. Refusal 0: the sheet stands in the file from the place on, so many bytes. Another: the file
+// and the place at fault, and 0 bytes.
 #[derive(Clone, Copy)]
 struct Numbers {
     refusal: u32,
-    file: File,
+    file: u64,
     place: usize,
     size: usize,
 }
 
-// 0 the customer's file, 1 ours.
-fn number_of_file(f: File) -> u64
-    ensures { result ≡ Rule.file_number (rule_file f) }
+fn numbers_of(x: Result<Found, Refused>) -> Numbers
+    ensures { result ≡ numbers_of (answer_of x) }
 {
-    match f {
-        File::Customers => 0,
-        File::Ours => 1,
+    match x {
+        Ok(Found { file, sheet }) => Numbers {
+            refusal: 0,
+            file: u64::from(file),
+            place: sheet.place,
+            size: sheet.size,
+        },
+        Err(Refused { file, fault }) => Numbers {
+            refusal: u32::from(fault.refusal),
+            file: u64::from(file),
+            place: fault.place,
+            size: 0,
+        },
     }
 }
 
-fn found_in(file: File, place: usize, size: usize) -> Numbers
-    ensures { result ≡ found_as file place size }
+// What one file's look finds, or is refused for.
+#[tactic(auto, using(crate::proofs::Look::file_laws))]
+fn find_in(file: File, bytes: &[u8], name: u8) -> Result<Option<Found>, Refused>
+    ensures found { result ≡ found_in file (look_in name bytes.now) }
+    ensures fits { IfOk result (λ o. IfSome o (λ x. (x.file ≡ file) × (x.sheet.place + x.sheet.size ≤ length bytes.now))) }
 {
-    Numbers {
-        refusal: 0,
-        file,
-        place,
-        size,
-    }
-}
-
-fn refused_in(file: File, r: Refusal, place: usize) -> Numbers
-    ensures { result ≡ refused_as file (rule_of r) place }
-{
-    let refusal = number_of(r);
-    Numbers {
-        refusal,
-        file,
-        place,
-        size: 0,
-    }
+    let found = look_in(bytes, name).map_err(|fault| Refused { file, fault })?;
+    Ok(found.map(|sheet| Found { file, sheet }))
 }
 
 // Where the sheet stands. Our file is not looked at where the customer's has the name or is malformed.
-fn find(name: u8, customer: &[u8], house: &[u8]) -> Numbers
-    ensures { result ≡ numbers_of (Rule.lookup name customer.now house.now) }
+#[tactic(auto, unfolding(crate::specs::Lookup::lookup, crate::specs::Lookup::look_on))]
+fn find(name: u8, customer: &[u8], house: &[u8]) -> Result<Found, Refused>
+    ensures answer { answer_of result ≡ Rule.lookup name customer.now house.now }
+    ensures fits { Fits (answer_of result).part customer.now house.now }
 {
-    let first = look_in(customer, name);
-    match first {
-        Look::Stop(r, p) => refused_in(File::Customers, r, p),
-        Look::Hit { place, size } => found_in(File::Customers, place, size),
-        Look::Miss => {
-            let second = look_in(house, name);
-            match second {
-                Look::Stop(r, p) => refused_in(File::Ours, r, p),
-                Look::Hit { place, size } => found_in(File::Ours, place, size),
-                Look::Miss => refused_in(File::Ours, Refusal::NoSuchName, 0),
-            }
-        }
+    if let Some(found) = find_in(File::Customers, customer, name)? {
+        return Ok(found);
     }
-}
-
-// The part that was found, of the very slice that was lent; the empty start of ours where nothing was.
-fn part_of<'a>(customer: &'a [u8], house: &'a [u8], x: Numbers) -> &'a [u8]
-    requires { Fits (part_of x) customer.now house.now }
-    ensures { IsPart (part_of x) result customer.entry house.entry }
-{
-    let from = x.place;
-    let size = x.size;
-    let file = x.file;
-    if x.refusal == 0 {
-        match file {
-            File::Customers => {
-                return &customer[from..from + size];
-            }
-            File::Ours => {
-                return &house[from..from + size];
-            }
-        }
-    }
-    &house[0..0]
+    find_in(File::Ours, house, name)?.ok_or(Refused {
+        file: File::Ours,
+        fault: Fault {
+            refusal: Refusal::NoSuchName,
+            place: 0,
+        },
+    })
 }
 
 // Looks for a name in the customer's file, else in ours, and hands back the sheet: a part of the very slice that was lent, no copy.
@@ -111,10 +112,23 @@ pub fn lookup<'a>(name: u8, customer: &'a [u8], house: &'a [u8], answer: &mut [u
     ensures unchanged_2 { Unchanged house.now house.now }
 {
     let x = find(name, customer, house);
-    let file = x.file;
-    let number = number_of_file(file);
-    *answer = [x.refusal as u64, number, x.place as u64];
-    part_of(customer, house, x)
+    let numbers = numbers_of(x);
+    *answer = [
+        u64::from(numbers.refusal),
+        numbers.file,
+        numbers.place as u64,
+    ];
+    match x {
+        Ok(found) => {
+            let Sheet { place, size } = found.sheet;
+            let file = match found.file {
+                File::Customers => customer,
+                File::Ours => house,
+            };
+            &file[place..place + size]
+        }
+        Err(_) => &house[..0],
+    }
 }
 
 // The same for C and Rust, in numbers: the refusal is returned, and refusal, file, place and size go to the front of a lent array.
@@ -126,15 +140,10 @@ pub extern "C" fn zumbeiry_find(name: u8, customer: &[u8], house: &[u8], answer:
     ensures unchanged { Unchanged customer.now customer.now }
     ensures unchanged_2 { Unchanged house.now house.now }
 {
-    let x = find(name, customer, house);
-    if answer.len() < 4 {
-        return x.refusal;
-    }
-    let file = x.file;
-    let number = number_of_file(file);
-    answer[0] = x.refusal as u64;
-    answer[1] = number;
-    answer[2] = x.place as u64;
-    answer[3] = x.size as u64;
+    let x = numbers_of(find(name, customer, house));
+    put_front(
+        answer,
+        [u64::from(x.refusal), x.file, x.place as u64, x.size as u64],
+    );
     x.refusal
 }

@@ -6,24 +6,40 @@
 // else for the part. It prints how many there are of both, and how many of these it noticed.
 #![tactic(auto)]
 
-ghost use Rattle.std.specs.Prelude.{◌≡◌, ◌≤◌, length};
+ghost use Rattle.std.specs.Prelude.{◌≤◌, length};
 
-use corpus::{both, counted, four, put, read_front, wide};
+use corpus::{counted, four, over_entries, put, read_front};
 use files::read_full;
 use shelf::lookup;
+use std::io::Read;
 
 // Bytes of a file at most.
 const LONGEST: usize = 200000;
 
-// What is planted in an entry: one of the four numbers is wrong.
-const WRONG: u64 = 1;
+// What is planted in an entry: one of the four numbers is wrong; another byte is taken for the part's first or its last, or the part is
+// taken one byte too short.
+#[derive(Clone, Copy, PartialEq, Eq)]
+enum Planted {
+    Nothing,
+    Number,
+    First,
+    Last,
+    Short,
+    Unknown,
+}
 
-// Another byte is taken for the part's first or its last, or the part is taken one byte too short.
-const FIRST: u64 = 2;
-
-const LAST: u64 = 3;
-
-const SHORT: u64 = 4;
+impl From<u8> for Planted {
+    fn from(code: u8) -> Planted {
+        match code {
+            0 => Planted::Nothing,
+            1 => Planted::Number,
+            2 => Planted::First,
+            3 => Planted::Last,
+            4 => Planted::Short,
+            _ => Planted::Unknown,
+        }
+    }
+}
 
 // An entry but for the bytes of its files, of which these are the lengths.
 #[derive(Clone, Copy)]
@@ -35,7 +51,7 @@ struct Entry {
     file: u64,
     place: usize,
     size: usize,
-    planted: u64,
+    planted: Planted,
 }
 
 // Whether the four numbers are the stated ones, and whether the part is.
@@ -46,8 +62,8 @@ struct Verdict {
 }
 
 // How many entries are right, and how many of these differ; how many have a wrong number, or a wrong part, and how many of these
-// were noticed; and whether the reading ended before the last.
-#[derive(Clone, Copy)]
+// were noticed.
+#[derive(Clone, Copy, Default)]
 struct Tally {
     compared: u64,
     differ: u64,
@@ -55,7 +71,6 @@ struct Tally {
     numbers_noticed: u64,
     parts: u64,
     parts_noticed: u64,
-    ended: bool,
 }
 
 fn entry_of(b: &[u8; 20]) -> Entry {
@@ -63,183 +78,121 @@ fn entry_of(b: &[u8; 20]) -> Entry {
         name: b[0],
         customer: four(b[1], b[2], b[3], b[4]) as usize,
         house: four(b[5], b[6], b[7], b[8]) as usize,
-        refusal: wide(b[9]),
-        file: wide(b[10]),
+        refusal: u64::from(b[9]),
+        file: u64::from(b[10]),
         place: four(b[11], b[12], b[13], b[14]) as usize,
         size: four(b[15], b[16], b[17], b[18]) as usize,
-        planted: wide(b[19]),
+        planted: Planted::from(b[19]),
     }
 }
 
-fn same_numbers(answer: &[u64; 3], size: usize, e: Entry) -> bool {
-    if answer[0] != e.refusal {
-        return false;
-    }
-    if answer[1] != e.file {
-        return false;
-    }
-    if answer[2] != e.place as u64 {
-        return false;
-    }
-    size == e.size
+fn same_numbers(answer: [u64; 3], size: usize, e: Entry) -> bool {
+    answer == [e.refusal, e.file, e.place as u64] && size == e.size
 }
 
 // How many bytes of the part are taken for it.
-fn taken_size(size: usize, planted: u64) -> usize
+fn taken_size(size: usize, planted: Planted) -> usize
     ensures { result ≤ size }
 {
-    if planted == SHORT {
-        if 0 < size {
-            return size - 1;
-        }
+    if planted == Planted::Short {
+        size.saturating_sub(1)
+    } else {
+        size
     }
-    size
 }
 
 // Where another byte is taken for the part's: its size if nowhere.
-fn changed_at(size: usize, planted: u64) -> usize {
-    if planted == FIRST {
-        return 0;
+fn changed_at(size: usize, planted: Planted) -> usize {
+    match planted {
+        Planted::First => 0,
+        Planted::Last => size.saturating_sub(1),
+        _ => size,
     }
-    if planted == LAST {
-        if 0 < size {
-            return size - 1;
-        }
-    }
-    size
 }
 
 // The part's byte, or another: 255 - b is never b.
 fn taken_byte(b: u8, changed: bool) -> u8 {
-    if changed {
-        return 255 - b;
-    }
-    b
+    if changed { 255 - b } else { b }
 }
 
-fn same_bytes(part: &[u8], stated: &[u8], changed: usize) -> bool
-    requires { length part.now ≡ length stated.now }
-{
-    let mut i: usize = 0;
-    while i < part.len() {
-        if taken_byte(part[i], i == changed) != stated[i] {
-            return false;
-        }
-        i += 1;
-    }
-    true
+fn same_bytes(part: &[u8], stated: &[u8], changed: usize) -> bool {
+    part.len() == stated.len()
+        && part
+            .iter()
+            .zip(stated)
+            .enumerate()
+            .all(|(i, (b, s))| taken_byte(*b, i == changed) == *s)
 }
 
 // Whether the part has the stated size and the file's bytes from the stated place on. What is stated may reach beyond the file.
 fn same_part(part: &[u8], file: &[u8], e: Entry) -> bool {
-    let place = e.place;
-    let size = e.size;
-    if taken_size(part.len(), e.planted) != size {
+    if taken_size(part.len(), e.planted) != e.size {
         return false;
     }
-    if file.len() < place {
+    let Some(stated) = file.get(e.place..).and_then(|rest| rest.get(..e.size)) else {
         return false;
-    }
-    if file.len() - place < size {
-        return false;
-    }
-    let changed = changed_at(size, e.planted);
-    same_bytes(&part[..size], &file[place..place + size], changed)
+    };
+    same_bytes(&part[..e.size], stated, changed_at(e.size, e.planted))
 }
 
-// File 0 is the customer's.
-fn stated_file<'a>(customer: &'a [u8], house: &'a [u8], file: u64) -> &'a [u8] {
-    if file == 0 {
-        return customer;
-    }
-    house
-}
-
-fn compare<'a>(e: Entry, customer: &'a [u8], house: &'a [u8]) -> Verdict {
+// The files are the fronts of the buffers. File 0 is the customer's.
+fn compare(e: Entry, customer: &[u8], house: &[u8]) -> Verdict
+    requires customer_in_bounds { e.customer ≤ length customer.now }
+    requires house_in_bounds { e.house ≤ length house.now }
+{
+    let customer = &customer[..e.customer];
+    let house = &house[..e.house];
     // No lookup gives refusal 7 or file 7: what is not written shows.
     let mut answer = [7u64; 3];
     let part = lookup(e.name, customer, house, &mut answer);
-    let file = stated_file(customer, house, e.file);
+    let file = if e.file == 0 { customer } else { house };
     Verdict {
-        numbers: same_numbers(&answer, part.len(), e),
+        numbers: same_numbers(answer, part.len(), e),
         part: same_part(part, file, e),
     }
 }
 
-// The files are the fronts of the buffers.
-fn compare_fronts<'a>(e: Entry, customer: &'a [u8], house: &'a [u8]) -> Verdict
-    requires customer_in_bounds { e.customer ≤ length customer.now }
-    requires house_in_bounds { e.house ≤ length house.now }
-{
-    let n = e.customer;
-    let m = e.house;
-    compare(e, &customer[..n], &house[..m])
-}
-
-fn added(t: Tally, v: Verdict, planted: u64) -> Tally {
-    let right = planted == 0;
-    let number = planted == WRONG;
-    let part = planted > WRONG;
+fn added(t: Tally, v: Verdict, planted: Planted) -> Tally {
+    let right = planted == Planted::Nothing;
+    let number = planted == Planted::Number;
+    let part = !right && !number;
     Tally {
         compared: counted(t.compared, right),
-        differ: counted(t.differ, both(right, !both(v.numbers, v.part))),
+        differ: counted(t.differ, right && !(v.numbers && v.part)),
         numbers: counted(t.numbers, number),
-        numbers_noticed: counted(t.numbers_noticed, both(number, !v.numbers)),
+        numbers_noticed: counted(t.numbers_noticed, number && !v.numbers),
         parts: counted(t.parts, part),
-        parts_noticed: counted(t.parts_noticed, both(part, both(v.numbers, !v.part))),
-        ended: t.ended,
+        parts_noticed: counted(t.parts_noticed, part && v.numbers && !v.part),
     }
 }
 
-fn ended(mut t: Tally) -> Tally {
-    t.ended = true;
-    t
-}
-
-// One entry more. One that the corpus does not hold whole ends the reading.
-fn compare_next(rt: HostRuntime, t: Tally, customer: &mut [u8], house: &mut [u8]) -> Tally {
+// The count with one entry more; none where the corpus does not hold it whole.
+fn compare_next<R: Read>(
+    from: &mut R,
+    t: Tally,
+    customer: &mut [u8],
+    house: &mut [u8],
+) -> Option<Tally> {
     let mut front = [0u8; 20];
-    if read_full(&mut rt.stdin(), &mut front) < 20 {
-        return ended(t);
+    if read_full(from, &mut front) < 20 {
+        return None;
     }
     let e = entry_of(&front);
-    if !read_front(&mut rt.stdin(), customer, e.customer) {
-        return ended(t);
+    if !read_front(from, customer, e.customer) || !read_front(from, house, e.house) {
+        return None;
     }
-    if !read_front(&mut rt.stdin(), house, e.house) {
-        return ended(t);
-    }
-    added(t, compare_fronts(e, customer, house), e.planted)
-}
-
-fn compare_all(rt: HostRuntime, count: u64, customer: &mut [u8], house: &mut [u8]) -> Tally {
-    let mut t = Tally {
-        compared: 0,
-        differ: 0,
-        numbers: 0,
-        numbers_noticed: 0,
-        parts: 0,
-        parts_noticed: 0,
-        ended: false,
-    };
-    for _ in 0..count {
-        t = compare_next(rt, t, customer, house);
-        if t.ended {
-            return t;
-        }
-    }
-    t
+    Some(added(t, compare(e, customer, house), e.planted))
 }
 
 fn main(rt: HostRuntime) {
-    let mut count = [0u8; 4];
-    if read_full(&mut rt.stdin(), &mut count) < 4 {
-        return;
-    }
     let mut customer = [0u8; LONGEST];
     let mut house = [0u8; LONGEST];
-    let n = four(count[0], count[1], count[2], count[3]);
-    let t = compare_all(rt, n, &mut customer, &mut house);
+    let counted = over_entries(&mut rt.stdin(), Tally::default(), |from, t| {
+        compare_next(from, t, &mut customer, &mut house)
+    });
+    let Some(t) = counted else {
+        return;
+    };
     put(rt, t.compared, b" lookups compared, ");
     put(rt, t.differ, b" differ; noticed of what is planted: ");
     put(rt, t.numbers_noticed, b" of ");

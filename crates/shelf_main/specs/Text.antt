@@ -1,13 +1,9 @@
 -- What the program takes and gives: a name in decimal; a sheet's bytes, or the line of a refusal.
-use Rattle.std.specs.Prelude.{◌≡◌, [], ◌++◌, ℕ, ◌≤◌, leb, eqb, if◌then◌else◌}
+use Rattle.std.specs.Prelude.{◌≡◌, [], ◌++◌, ℕ, ◌≤◌, leb, eqb, if◌then◌else◌, Option, Some, None}
 use Rattle.rules.specs.Format.{Bytes}
 use Rattle.rules.specs.Product.{bytes, decimal}
-use Rattle.digits.specs.declared.Number.{Number}
-use Rattle.digits.specs.declared.Number.TheVariants as N
 use Rattle.digits.specs.Digits.{number_in}
 use Rattle.shelf.specs.Lookup.{file_number, bytes_of, lookup}
-use Rattle.shelf_main.specs.declared.Name.{Name}
-use Rattle.shelf_main.specs.declared.Name.TheVariants.{Is, Wrong}
 
 -- the longest file that is looked into
 abbrev pub longest_file : ℕ
@@ -19,16 +15,16 @@ longest_line = 63
 
 -- ---- a name: a number that one byte holds, in decimal
 
-unfoldable pub name_of : Number → Name
-name_of (N.Is n) = if leb n 255 then Is n else Wrong
-name_of N.Wrong = Wrong
+unfoldable pub name_of : Option ℕ → Option ℕ
+name_of (Some n) = if leb n 255 then Some n else None
+name_of None = None
 
-unfoldable pub name_in : Bytes → Name
+unfoldable pub name_in : Bytes → Option ℕ
 name_in word = name_of (number_in word)
 
 -- the claim: each of the 256 names is read from its own decimal
 abbrev pub NamesRead : Type 0
-NamesRead = (n : ℕ) → n ≤ 255 → name_in (decimal n) ≡ Is n
+NamesRead = (n : ℕ) → n ≤ 255 → name_in (decimal n) ≡ Some n
 
 -- ---- what is written of a name and two files
 

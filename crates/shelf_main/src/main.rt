@@ -5,14 +5,13 @@
 
 ghost use Rattle.std.specs.Prelude.{◌≡◌, ◌+◌, ◌≤◌, length};
 ghost use Rattle.writing.specs.Out.{Writes};
-ghost use Rattle.shelf_main.specs.Text.{longest_file, longest_line, name_of, name_in, line_unless_found, written, said};
+ghost use Rattle.shelf_main.specs.Text.{longest_file, longest_line, name_in, line_unless_found, written, said};
 
-use digits::{Number, number_in};
+use digits::number_in;
 use files::{MOST_OF_WORD, opened, read_full, reads_on, tell, tell_bytes, word, word_count};
 use shelf::lookup;
 use std::fs::File;
 use std::io::Print;
-use writing::put_number;
 
 // One byte more than the longest file that is looked into, so that a longer one is seen to be too long.
 const MOST_BYTES: usize = 1000001;
@@ -22,34 +21,15 @@ const LONGEST_LINE: usize = 63;
 
 // ---- the name
 
-#[derive(Clone, Copy)]
-enum Name {
-    Is(u8),
-    Wrong,
-}
-
-// A number that one byte holds.
-fn name_of(n: Number) -> Name
-    ensures { result ≡ name_of n }
-{
-    let Number::Is(k) = n else {
-        return Name::Wrong;
-    };
-    if k > 255 {
-        return Name::Wrong;
-    }
-    Name::Is(k as u8)
-}
-
-// The name that a word writes in decimal.
-fn name_in(word: &[u8]) -> Name
+// The name that a word writes in decimal: a number that one byte holds.
+#[tactic(auto, unfolding(crate::specs::Text::name_in, crate::specs::Text::name_of))]
+fn name_in(word: &[u8]) -> Option<u8>
     ensures { result ≡ name_in word.now }
 {
-    let n = number_in(word);
-    name_of(n)
+    u8::try_from(number_in(word)?).ok()
 }
 
-fn name_given(rt: HostRuntime) -> Name {
+fn name_given(rt: HostRuntime) -> Option<u8> {
     let mut given = [0u8; MOST_OF_WORD];
     let n = word(rt, 1, &mut given);
     name_in(&given[..n])
@@ -58,6 +38,7 @@ fn name_given(rt: HostRuntime) -> Name {
 // ---- the answer
 
 // The line of a refusal at the buffer's front; nothing where the sheet is found.
+#[tactic(auto, unfolding(crate::proofs::Laws::said_line))]
 fn put_line(out: &mut [u8], refusal: u64, file: u64, place: u64) -> usize
     requires { longest_line ≤ length out.old }
     ensures writes { Writes (line_unless_found refusal file place) out.old 0 out.new result }
@@ -66,34 +47,26 @@ fn put_line(out: &mut [u8], refusal: u64, file: u64, place: u64) -> usize
     if refusal == 0 {
         return 0;
     }
-    let second = put_number(out, 0, refusal as usize, b' ');
-    let third = put_number(out, second, file as usize, b' ');
-    put_number(out, third, place as usize, b'\n')
+    writing::put_line(out, 0, &[refusal as usize, file as usize, place as usize])
 }
 
-// What goes to standard output is returned, and what goes to standard error stands at the buffer's front, up to the end.
-fn answer<'a>(
-    name: u8,
-    customer: &'a [u8],
-    house: &'a [u8],
-    out: &mut [u8],
-    end: &mut usize,
-) -> &'a [u8]
+// What goes to standard output is returned, and what goes to standard error stands at the buffer's front, up to the place behind it.
+#[tactic(auto, unfolding(crate::specs::Text::written, crate::specs::Text::said))]
+fn answer<'a>(name: u8, customer: &'a [u8], house: &'a [u8], out: &mut [u8]) -> (&'a [u8], usize)
     requires { longest_line ≤ length out.old }
-    ensures result_value { result.now ≡ written name customer.now house.now }
-    ensures writes { Writes (said name customer.now house.now) out.old 0 out.new end.new }
-    ensures end_in_bounds { end.new ≤ length out.new }
+    ensures sheet { result.0.now ≡ written name customer.now house.now }
+    ensures writes { Writes (said name customer.now house.now) out.old 0 out.new result.1 }
+    ensures end_in_bounds { result.1 ≤ length out.new }
 {
     let mut numbers = [0u64; 3];
     let sheet = lookup(name, customer, house, &mut numbers);
-    *end = put_line(out, numbers[0], numbers[1], numbers[2]);
-    sheet
+    let end = put_line(out, numbers[0], numbers[1], numbers[2]);
+    (sheet, end)
 }
 
-fn put_answer<'a>(rt: HostRuntime, name: u8, customer: &'a [u8], house: &'a [u8]) {
+fn put_answer(rt: HostRuntime, name: u8, customer: &[u8], house: &[u8]) {
     let mut out = [0u8; LONGEST_LINE];
-    let mut end: usize = 0;
-    let sheet = answer(name, customer, house, &mut out, &mut end);
+    let (sheet, end) = answer(name, customer, house, &mut out);
     if let Err(e) = rt.write_all(sheet) {
         tell(rt, b"standard output", e);
     }
@@ -137,8 +110,7 @@ fn main(rt: HostRuntime) {
         let _ = rt.stderr().write_all(b"usage: shelf_main NAME HIS OURS\n");
         return;
     }
-    let given = name_given(rt);
-    let Name::Is(name) = given else {
+    let Some(name) = name_given(rt) else {
         let _ = rt
             .stderr()
             .write_all(b"a name is a number from 0 to 255, in decimal\n");

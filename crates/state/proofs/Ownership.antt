@@ -1,13 +1,18 @@
--- What the machine's hold on a state tells of its lists: their lengths, and that a byte is one.
+-- What the machine's hold on a state tells of its lists: their lengths, and that a byte is one; and what its hold on a slot's
+-- numbers tells of them.
 use mathlib.Core.Path.{◌≡◌}
 use mathlib.Core.List.{List, [], ◌∷◌}
-use Prim.Native.Nat.{ℕ, zero, suc, ◌<◌, ◌≤◌}
+use Prim.Native.Nat.{ℕ, zero, suc, ◌<◌, ◌≤◌, ◌^◌}
 use native.Mathlib.Omega.{arith}
 use native.Mathlib.Nat.{not-suc-le-zero, le_of_suc-le-suc}
 use lib.ListN.{length, get_or}
+use lib.IntN.{ℤ}
+use lib.Signed.{mag}
+use mir.Syntax.{w32}
 use mir.Val.{Val}
 use denote.Shadow.{shadow}
 use denote.Array.{each}
+use denote.Signed.{SInt}
 use denote.RattleType.{Valss, owns}
 use denote.Struct.Declared.{shape}
 use denote.Struct.Field.{u8-field}
@@ -16,7 +21,7 @@ use Rattle.state.specs.contracts.Thread as Thread-m
 use Rattle.state.specs.declared.Thread.{Thread}
 use Rattle.state.specs.declared.State.{State}
 use Rattle.state.specs.Access.{zero_thread}
-use Rattle.state.specs.Cells.{Sound}
+use Rattle.state.specs.Cells.{cell_at, Sound}
 
 each-byte : (l : List ℕ) (us : List Val) → shadow (each u8-field.row.Denot u8-field.row.own_val l us) → (k : ℕ) → k < length l → get_or l k 0 ≤ 255
 each-byte [] us g k h = absurd (not-suc-le-zero h)
@@ -46,3 +51,10 @@ sound-of s vs g =
       owners = owners;
       owned = λ k h. each-byte s.owners g.1.1.0.0 g.1.1.0.1.1 k (omega arith);
     }
+
+-- a number of 32 bits is one
+pub each-small : (l : List ℤ) (us : List Val) → shadow (each (SInt w32).Denot (SInt w32).own_val l us) → (k : ℕ) → k < length l → mag (cell_at l k) < 2 ^ 31
+each-small [] us g k h = absurd (not-suc-le-zero h)
+each-small (x ∷ l) [] g k h = absurd g
+each-small (x ∷ l) (u ∷ us) g zero h = g.0.1
+each-small (x ∷ l) (u ∷ us) g (suc k) h = each-small l us g.1 k (le_of_suc-le-suc h)

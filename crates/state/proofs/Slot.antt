@@ -58,6 +58,10 @@ spans-get b j (suc (suc (suc (suc (suc (suc zero)))))) h = refl
 spans-get b j (suc (suc (suc (suc (suc (suc (suc zero))))))) h = refl
 spans-get b j (suc (suc (suc (suc (suc (suc (suc (suc m)))))))) h = absurd (omega arith)
 
+-- eight spans, each at its place
+pub spans-are : (b : List ℤ) (j : ℕ) (l : List Span) → length l ≡ most_registers → ((m : ℕ) → m < most_registers → get_or l m zero_span ≡ span_from b (j + 2 * m)) → l ≡ spans_from b j
+spans-are b j l n at = ext_get_or zero_span l (spans_from b j) n (λ m h. let r : m < most_registers = omega arith in at m r ∙ sym (spans-get b j m r))
+
 bytes-get : (b : List ℤ) (j l : ℕ) → l < most_locks → get_or (bytes_from b j) l 0 ≡ byte_from b (j + l)
 bytes-get b j zero h = ap (byte_from b) (omega arith)
 bytes-get b j (suc zero) h = refl
@@ -140,14 +144,6 @@ module _ (c b : List ℤ) where
   thread-same j s =
       let rs = spans-same (j + 3) (λ k p q. s k (omega arith) (omega arith)) in
       stand-same j (λ k p q. s k p (omega arith)) ∙ (λ i. record { at = (thread_from b j).at; clock = (thread_from b j).clock; regs = rs i })
-
-  pub decode-same : Same c b 0 numbers_per_state → decode c ≡ decode b
-  unfolding decode
-  decode-same s =
-      let th : (j : ℕ) → j + 19 ≤ numbers_per_state → thread_from c j ≡ thread_from b j = (λ j h. thread-same j (λ k p q. s k (omega arith) (omega arith))) in
-      let vs = spans-same 76 (λ k p q. s k (omega arith) (omega arith)) in
-      let os = bytes_same 92 (λ k p q. s k (omega arith) (omega arith)) in
-      λ i. record { threads = th 0 (omega arith) i ∷ th 19 (omega arith) i ∷ th 38 (omega arith) i ∷ th 57 (omega arith) i ∷ []; vars = vs i; owners = os i }
 
   -- ---- outside one part they agree
 

@@ -6,7 +6,6 @@ use lib.ListN.{get_or}
 use Rattle.rules.specs.Constants.{most_threads}
 use Rattle.state.specs.declared.Thread.{Thread}
 use Rattle.state.specs.Access.{zero_thread}
-use Rattle.state.specs.Cells.{Timed}
 
 -- what holds of four threads, each at its number
 pub at-four : (P : ℕ → Thread → Type 0) (a b c d : Thread) → P 0 a → P 1 b → P 2 c → P 3 d → (t : ℕ) → t < most_threads → P t (get_or (a ∷ b ∷ c ∷ d ∷ []) t zero_thread)
@@ -15,6 +14,3 @@ at-four P a b c d pa pb pc pd (suc zero) h = pb
 at-four P a b c d pa pb pc pd (suc (suc zero)) h = pc
 at-four P a b c d pa pb pc pd (suc (suc (suc zero))) h = pd
 at-four P a b c d pa pb pc pd (suc (suc (suc (suc k)))) h = absurd (omega arith)
-
-pub four-timed : (a b c d : Thread) → Timed a → Timed b → Timed c → Timed d → (t : ℕ) → t < most_threads → Timed (get_or (a ∷ b ∷ c ∷ d ∷ []) t zero_thread)
-four-timed = at-four (λ _ th. Timed th)

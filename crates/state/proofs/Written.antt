@@ -13,7 +13,7 @@ use Rattle.interval.specs.Shape.{zero_span}
 use Rattle.state.specs.declared.State.{State}
 use Rattle.state.specs.declared.moves.Move.{Move}
 use Rattle.state.specs.Access.{thread_at, with_var, with_owner}
-use Rattle.state.specs.Cells.{byte_of, time_of, cell_at, byte_from, span_from, decode, slot_of, spans_cells, Timed, AllTimed}
+use Rattle.state.specs.Cells.{byte_of, time_of, cell_at, byte_from, span_from, decode, spans_cells, Timed, AllTimed}
 use Rattle.state.specs.Move.{moved_to}
 use Rattle.state.proofs.Round.{byte-back, items, all-items}
 use Rattle.state.proofs.Writing.{spans-16}
@@ -29,9 +29,6 @@ pub small-timed : (b : List ℤ) → ((k : ℕ) → k < numbers_per_state → ma
 small-timed b small = record {
   timed = λ t h. subst Timed (sym (thread-from b t h)) (record { low = time-small (cell_at b (t * 19 + 1)) (small (t * 19 + 1) (omega arith)); high = time-small (cell_at b (t * 19 + 2)) (small (t * 19 + 2) (omega arith)) });
 }
-
-pub slot-cell : (b : List ℤ) (n k : ℕ) → k < numbers_per_state → cell_at (slot_of b n) k ≡ cell_at b (n * numbers_per_state + k)
-slot-cell b n k h = get_or-take numbers_per_state (drop (n * numbers_per_state) b) k (pos 0) h ∙ get_or-drop (n * numbers_per_state) b k (pos 0)
 
 -- ---- what the code writes into a slot
 
@@ -61,23 +58,22 @@ owner-written b l o n h small =
     let at : byte_from (set b (92 + l) (pos o)) (92 + l) ≡ o = ap byte_of (get_or-set_same b (92 + l) (pos o) (pos 0) (omega arith)) ∙ byte-back o (omega arith) in
     decode-owner _ b l o h (λ k p q. get_or-set_other b (92 + l) k (pos o) (pos 0) (λ e. omega arith)) (λ k p q. get_or-set_other b (92 + l) k (pos o) (pos 0) (λ e. omega arith)) at
 
--- l is a copy of b
-pub move-written : (l b : List ℤ) (m : Move) → length l ≡ numbers_per_state → ((k : ℕ) → k < numbers_per_state → cell_at l k ≡ cell_at b k) → m.thread < most_threads → m.at < 256
-    → decode (set (set (set l (m.thread * 19) (pos m.at)) (m.thread * 19 + 1) (pos m.clock.low.0)) (m.thread * 19 + 2) (pos m.clock.high.0))
+pub move-written : (b : List ℤ) (m : Move) → length b ≡ numbers_per_state → m.thread < most_threads → m.at < 256
+    → decode (set (set (set b (m.thread * 19) (pos m.at)) (m.thread * 19 + 1) (pos m.clock.low.0)) (m.thread * 19 + 2) (pos m.clock.high.0))
     ≡ moved_to (decode b) m (thread_at (decode b) m.thread).regs
-move-written l b m n same h small =
+move-written b m n h small =
     let p = m.thread * 19 in
     let x = pos m.at in
     let y = pos m.clock.low.0 in
     let z = pos m.clock.high.0 in
-    let other : (k : ℕ) → (k ≡ p + 2 → ⊥) → cell_at (set (set (set l p x) (p + 1) y) (p + 2) z) k ≡ cell_at (set (set l p x) (p + 1) y) k = (λ k e. get_or-set_other (set (set l p x) (p + 1) y) (p + 2) k z (pos 0) e) in
-    let room : p + 2 ≤ length l = omega arith in
+    let other : (k : ℕ) → (k ≡ p + 2 → ⊥) → cell_at (set (set (set b p x) (p + 1) y) (p + 2) z) k ≡ cell_at (set (set b p x) (p + 1) y) k = (λ k e. get_or-set_other (set (set b p x) (p + 1) y) (p + 2) k z (pos 0) e) in
+    let room : p + 2 ≤ length b = omega arith in
     moved-from _ b m h small
-    (λ k i j. other k (λ e. omega arith) ∙ two-below l p x y room 0 k i j ∙ same k (omega arith))
-    (λ k i j. other k (λ e. omega arith) ∙ two-above l p x y room numbers_per_state k (omega arith) j ∙ same k j)
-    (other p (λ e. omega arith) ∙ two-first l p x y room)
-    (other (p + 1) (λ e. omega arith) ∙ two-second l p x y room)
-    (get_or-set_same (set (set l p x) (p + 1) y) (p + 2) z (pos 0) (simp length-set (omega arith)))
+    (λ k i j. other k (λ e. omega arith) ∙ two-below b p x y room 0 k i j)
+    (λ k i j. other k (λ e. omega arith) ∙ two-above b p x y room numbers_per_state k (omega arith) j)
+    (other p (λ e. omega arith) ∙ two-first b p x y room)
+    (other (p + 1) (λ e. omega arith) ∙ two-second b p x y room)
+    (get_or-set_same (set (set b p x) (p + 1) y) (p + 2) z (pos 0) (simp length-set (omega arith)))
 
 module _ (b : List ℤ) (s : State) (m : Move) (regs : List Span) (four : length s.threads ≡ most_threads) (h : m.thread < most_threads) (e : decode b ≡ moved_to s m regs) (n : length b ≡ numbers_per_state) where
   pub register-written : (k : ℕ) (v : Span) → k < most_registers

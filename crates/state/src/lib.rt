@@ -30,7 +30,7 @@ pub struct Thread {
     pub regs: [Span; 8],
 }
 
-// The owner of a lock is 0 for none, t + 1 for thread t.
+// The owner of a lock is 0 for none, t + 1 for thread t: a number and no `Option`, since a slot holds numbers.
 #[derive(Clone, Copy)]
 pub struct State {
     pub threads: [Thread; 4],

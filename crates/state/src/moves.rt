@@ -1,15 +1,15 @@
 // The state that an event makes, written straight into its slot: the numbers of the state before it are copied, then those that
 // the event changes are replaced.
-ghost use Rattle.std.specs.Prelude.{◌≡◌, ℕ, ◌<◌, length, set};
+ghost use Rattle.std.specs.Prelude.{◌≡◌, ◌<◌, length, set};
 ghost use Rattle.rules.specs.Constants.{numbers_per_state, most_registers, most_variables, most_locks};
 ghost use Rattle.state.specs.Access.{thread_at, with_var, with_owner};
-ghost use Rattle.state.specs.Cells.{cell_at, decode};
+ghost use Rattle.state.specs.Cells.{decode};
 ghost use Rattle.state.specs.Move.{MoveFits, moved_to};
 
 use crate::Clock;
 use crate::cells::{
-    FIRST_OWNER, FIRST_VARIABLE, NUMBERS_PER_STATE, NUMBERS_PER_THREAD, put_byte, put_span,
-    put_spans, put_time,
+    FIRST_OWNER, FIRST_REGISTER, FIRST_VARIABLE, NUMBERS_OF_SPANS, NUMBERS_PER_STATE,
+    NUMBERS_PER_THREAD, put_span, put_spans, put_stand,
 };
 use interval::Span;
 
@@ -21,27 +21,13 @@ pub struct Move {
     pub clock: Clock,
 }
 
-fn copy(slot: &mut [i32], cells: &[i32; NUMBERS_PER_STATE])
-    requires { length slot.old ≡ numbers_per_state }
-    ensures { (k : ℕ) → k < numbers_per_state → cell_at slot.new k ≡ cell_at cells.now k }
-{
-    let mut i: usize = 0;
-    while i < NUMBERS_PER_STATE {
-        slot[i] = cells[i];
-        i += 1;
-    }
-}
-
 // The thread moved, its registers as they were.
 pub fn put_moved(slot: &mut [i32], cells: &[i32; NUMBERS_PER_STATE], m: Move)
     requires { (length slot.old ≡ numbers_per_state) × MoveFits m }
     ensures { decode slot.new ≡ moved_to (decode cells.now) m (thread_at (decode cells.now) m.thread).regs }
 {
-    let p = m.thread * NUMBERS_PER_THREAD;
-    copy(slot, cells);
-    put_byte(slot, p, m.at);
-    put_time(slot, p + 1, m.clock.low);
-    put_time(slot, p + 2, m.clock.high);
+    slot.copy_from_slice(cells);
+    put_stand(slot, m.thread * NUMBERS_PER_THREAD, m.at, m.clock);
 }
 
 // The thread moved, with register i of it.
@@ -50,7 +36,11 @@ pub fn put_register(slot: &mut [i32], cells: &[i32; NUMBERS_PER_STATE], m: Move,
     ensures { decode slot.new ≡ moved_to (decode cells.now) m (set (thread_at (decode cells.now) m.thread).regs i v) }
 {
     put_moved(slot, cells, m);
-    put_span(slot, m.thread * NUMBERS_PER_THREAD + 3 + 2 * i, v);
+    put_span(
+        slot,
+        m.thread * NUMBERS_PER_THREAD + FIRST_REGISTER + 2 * i,
+        v,
+    );
 }
 
 // The thread moved, with all its registers.
@@ -59,8 +49,8 @@ pub fn put_registers(slot: &mut [i32], cells: &[i32; NUMBERS_PER_STATE], m: Move
     ensures { decode slot.new ≡ moved_to (decode cells.now) m regs }
 {
     put_moved(slot, cells, m);
-    let p = m.thread * NUMBERS_PER_THREAD + 3;
-    put_spans(&mut slot[p..p + 16], regs);
+    let p = m.thread * NUMBERS_PER_THREAD + FIRST_REGISTER;
+    put_spans(&mut slot[p..p + NUMBERS_OF_SPANS], regs);
 }
 
 // The thread moved, and variable k.
@@ -78,5 +68,5 @@ pub fn put_owner(slot: &mut [i32], cells: &[i32; NUMBERS_PER_STATE], m: Move, l:
     ensures { decode slot.new ≡ with_owner (moved_to (decode cells.now) m (thread_at (decode cells.now) m.thread).regs) l o }
 {
     put_moved(slot, cells, m);
-    put_byte(slot, FIRST_OWNER + l, o);
+    slot[FIRST_OWNER + l] = i32::from(o);
 }

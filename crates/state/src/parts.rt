@@ -6,9 +6,12 @@ ghost use Rattle.state.specs.Access.{thread_at, var_at, owner_at, reg_at};
 ghost use Rattle.state.specs.Cells.{slot_of, byte_of, time_of, span_from, decode, AllTimed};
 
 use crate::Clock;
-use crate::cells::{FIRST_OWNER, FIRST_VARIABLE, NUMBERS_PER_STATE, NUMBERS_PER_THREAD};
+use crate::cells::{
+    FIRST_OWNER, FIRST_REGISTER, FIRST_VARIABLE, NUMBERS_PER_STATE, NUMBERS_PER_THREAD,
+};
 use field::Time;
 use interval::{Span, Val};
+use std::array;
 
 // The numbers of a slot.
 pub fn take_slot(work: &[i32], slot: usize) -> [i32; NUMBERS_PER_STATE]
@@ -16,34 +19,19 @@ pub fn take_slot(work: &[i32], slot: usize) -> [i32; NUMBERS_PER_STATE]
     ensures { (decode result ≡ decode (slot_of work.now slot)) × AllTimed (decode result) }
 {
     let from = slot * NUMBERS_PER_STATE;
-    let mut cells: [i32; NUMBERS_PER_STATE] = [0; NUMBERS_PER_STATE];
-    let mut i: usize = 0;
-    while i < NUMBERS_PER_STATE {
-        cells[i] = work[from + i];
-        i += 1;
-    }
-    cells
+    work[from..from + NUMBERS_PER_STATE].try_into().unwrap()
 }
 
 fn cell_byte(x: i32) -> u8
     ensures { result ≡ byte_of x }
 {
-    if x < 0 {
-        return 0;
-    }
-    if 255 < x {
-        return 255;
-    }
-    x as u8
+    x.clamp(0, 255) as u8
 }
 
 fn cell_time(x: i32) -> Time
     ensures { (result.0 ≡ time_of x) × (result.0 < half32) }
 {
-    if x < 0 {
-        return Time(0);
-    }
-    Time(x as u32)
+    Time(x.max(0) as u32)
 }
 
 // Where thread t stands.
@@ -59,11 +47,9 @@ pub fn clock_of(cells: &[i32; NUMBERS_PER_STATE], t: usize) -> Clock
     ensures { (result ≡ (thread_at (decode cells.now) t).clock) × ((result.low.0 < half32) × (result.high.0 < half32)) }
 {
     let p = t * NUMBERS_PER_THREAD;
-    let low = cell_time(cells[p + 1]);
-    let high = cell_time(cells[p + 2]);
     Clock {
-        low: low,
-        high: high,
+        low: cell_time(cells[p + 1]),
+        high: cell_time(cells[p + 2]),
     }
 }
 
@@ -71,11 +57,9 @@ fn span_of(cells: &[i32; NUMBERS_PER_STATE], at: usize) -> Span
     requires { at + 2 ≤ numbers_per_state }
     ensures { result ≡ span_from cells.now at }
 {
-    let low = cells[at];
-    let high = cells[at + 1];
     Span {
-        low: Val(low),
-        high: Val(high),
+        low: Val(cells[at]),
+        high: Val(cells[at + 1]),
     }
 }
 
@@ -83,23 +67,15 @@ pub fn registers_of(cells: &[i32; NUMBERS_PER_STATE], t: usize) -> [Span; 8]
     requires { t < most_threads }
     ensures { result ≡ (thread_at (decode cells.now) t).regs }
 {
-    let p = t * NUMBERS_PER_THREAD + 3;
-    let a = span_of(cells, p);
-    let b = span_of(cells, p + 2);
-    let c = span_of(cells, p + 4);
-    let d = span_of(cells, p + 6);
-    let e = span_of(cells, p + 8);
-    let f = span_of(cells, p + 10);
-    let g = span_of(cells, p + 12);
-    let h = span_of(cells, p + 14);
-    [a, b, c, d, e, f, g, h]
+    let p = t * NUMBERS_PER_THREAD + FIRST_REGISTER;
+    array::from_fn(|i| span_of(cells, p + 2 * i))
 }
 
 pub fn register_of(cells: &[i32; NUMBERS_PER_STATE], t: usize, i: usize) -> Span
     requires { (t < most_threads) × (i < most_registers) }
     ensures { result ≡ reg_at (thread_at (decode cells.now) t) i }
 {
-    span_of(cells, t * NUMBERS_PER_THREAD + 3 + 2 * i)
+    span_of(cells, t * NUMBERS_PER_THREAD + FIRST_REGISTER + 2 * i)
 }
 
 pub fn variable_of(cells: &[i32; NUMBERS_PER_STATE], k: usize) -> Span

@@ -15,7 +15,7 @@ use writing::{LONGEST_REFUSAL, put_refusal};
 // What a text may have here, and one byte more, so that a longer one is seen to be longer.
 const MOST_TEXT: usize = 1048576;
 
-const READ_TEXT: usize = 1048577;
+const READ_TEXT: usize = MOST_TEXT + 1;
 
 // What is lent: the longest sheet.
 const LENT_BYTES: usize = 16384;

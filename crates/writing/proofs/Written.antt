@@ -1,12 +1,12 @@
 -- Texts that are written one behind the other, and what stands in the buffer where they fit.
 use mathlib.Core.Path.{◌≡◌, refl, sym, ap, ap₂, ◌∙◌}
-use mathlib.Core.List.{[], ◌∷◌, ◌++◌, append-nil}
-use Prim.Native.Nat.{ℕ, zero, suc, ◌+◌, ◌-◌, ◌≤◌, ◌<◌}
+use mathlib.Core.List.{List, [], ◌∷◌, ◌++◌, append-nil}
+use Prim.Native.Nat.{ℕ, suc, ◌+◌, ◌-◌, ◌≤◌, ◌<◌}
 use native.Mathlib.Decide.{dec_lt}
 use native.Mathlib.Omega.{arith}
 use lib.Dec.{ltb}
 use borrow.Author.Tests.{lt-ltb, le-ltb}
-use lib.ListN.{length, get_or, set, take, drop, replicate, length-append, length-set, length-drop, length-replicate}
+use lib.ListN.{length, get_or, set, take, drop, replicate, length-append, length-set, length-drop, length-replicate, replicate-append-replicate}
 use lib.Seq.{append_snoc, set-append_seam, take-suc, take_all, drop-length}
 use Rattle.rules.specs.Format.{Bytes}
 use Rattle.rules.proofs.Base.{if-ind}
@@ -14,32 +14,35 @@ use Rattle.writing.specs.Out.{Out, out_of, put, write, Writes}
 
 -- ---- one byte
 
-pub put_in : (b : ℕ) (l : Bytes) (at : ℕ) → at < length l → Writes (b ∷ []) l at (set l at b) (at + 1)
+pub put_in : {A : Type 0} (b : A) (l : List A) (at : ℕ) → at < length l → Writes (b ∷ []) l at (set l at b) (at + 1)
 unfolding write put
 put_in b l at h = rw (lt-ltb at (length l) h)
 
-pub put-out : (b : ℕ) (l : Bytes) (at : ℕ) → length l ≤ at → Writes (b ∷ []) l at l (length l + 1)
+pub put_out : {A : Type 0} (b : A) (l : List A) (at : ℕ) → length l ≤ at → Writes (b ∷ []) l at l (length l + 1)
 unfolding write put
-put-out b l at h = rw (le-ltb at (length l) h)
+put_out b l at h = rw (le-ltb at (length l) h)
 
 -- ---- one behind the other
 
-pub write-append : (s t : Bytes) (o : Out) → write (s ++ t) o ≡ write t (write s o)
+pub write-append : {A : Type 0} (s t : List A) (o : Out A) → write (s ++ t) o ≡ write t (write s o)
 unfolding write
 write-append [] t o = refl
 write-append (b ∷ s) t o = write-append s t (put b o)
 
-pub then-writes : (s t : Bytes) (l m n : Bytes) (a b c : ℕ) → Writes s l a m b → Writes t m b n c → Writes (s ++ t) l a n c
+-- what a search is given for texts that are written one behind the other
+pub ruleset behind_laws = (write-append)
+
+pub then-writes : {A : Type 0} (s t : List A) (l m n : List A) (a b c : ℕ) → Writes s l a m b → Writes t m b n c → Writes (s ++ t) l a n c
 then-writes s t l m n a b c e f = f ∙ ap (write t) e ∙ sym (write-append s t (out_of l a))
 
 -- nothing at all
-pub none_written : (l : Bytes) (a : ℕ) → Writes [] l a l a
+pub none_written : {A : Type 0} (l : List A) (a : ℕ) → Writes [] l a l a
 unfolding write
 none_written l a = refl
 
 -- the same text, said in another way
-pub same_text : (s t : Bytes) (l m : Bytes) (a b : ℕ) → s ≡ t → Writes s l a m b → Writes t l a m b
-same_text s t l m a b e h = h ∙ ap (λ (x : Bytes). write x (out_of l a)) e
+pub same_text : {A : Type 0} (s t : List A) (l m : List A) (a b : ℕ) → s ≡ t → Writes s l a m b → Writes t l a m b
+same_text {A} s t l m a b e h = h ∙ ap (λ (x : List A). write x (out_of l a)) e
 
 -- a text with one byte behind it, and then another text
 pub text-then : (d : Bytes) (b : ℕ) (s : Bytes) (l m n : Bytes) (x y z : ℕ) → Writes (d ++ b ∷ []) l x m y → Writes s m y n z
@@ -62,7 +65,7 @@ all-written s i h l m x y e = e ∙ ap (λ (t : Bytes). write t (out_of l x)) (t
 -- ---- a text that fits stands in the buffer, and what was before and behind it stays
 
 -- behind p the buffer goes on with l
-pub write-fits : (s p l : Bytes) → length s ≤ length l
+pub write-fits : {A : Type 0} (s p l : List A) → length s ≤ length l
     → write s (out_of (p ++ l) (length p)) ≡ out_of (p ++ (s ++ drop (length s) l)) (length p + length s)
 unfolding write put
 write-fits [] p l h = ap (out_of (p ++ l)) (omega arith)
@@ -71,18 +74,18 @@ write-fits (b ∷ s) p (x ∷ l) h =
     let room : length p < length (p ++ x ∷ l) = omega (arith, length-append p (x ∷ l)) in
     let next = length-append p (b ∷ []) in
     rw (lt-ltb (length p) (length (p ++ x ∷ l)) room, set-append_seam p x l b)
-    (ap (λ (o : Out). write s o) (ap₂ out_of (sym (append_snoc p b l)) (sym next))
+    (ap (write s) (ap₂ out_of (sym (append_snoc p b l)) (sym next))
     ∙ write-fits s (p ++ b ∷ []) l (omega arith)
     ∙ ap₂ out_of (append_snoc p b (s ++ drop (length s) l)) (omega (arith, next)))
 
 -- at the buffer's front
-pub fits-front : (s l m : Bytes) (r : ℕ) → Writes s l 0 m r → length s ≤ length l → (m ≡ s ++ drop (length s) l) × (r ≡ length s)
-fits-front s l m r e h =
+pub fits-front : {A : Type 0} (s l m : List A) (r : ℕ) → Writes s l 0 m r → length s ≤ length l → (m ≡ s ++ drop (length s) l) × (r ≡ length s)
+fits-front {A} s l m r e h =
     let done = e ∙ write-fits s [] l h in
-    (ap (λ (o : Out). o.buffer) done, omega (arith, ap (λ (o : Out). o.at) done))
+    (ap (λ (o : Out A). o.buffer) done, omega (arith, ap (λ (o : Out A). o.at) done))
 
 -- and the place behind it lies in the buffer
-pub fits-inside : (s l m : Bytes) (r : ℕ) → Writes s l 0 m r → length s ≤ length l → r ≤ length m
+pub fits-inside : {A : Type 0} (s l m : List A) (r : ℕ) → Writes s l 0 m r → length s ≤ length l → r ≤ length m
 fits-inside s l m r e h =
     let d = fits-front s l m r e h in
     let g = ap length d.0 ∙ length-append s _ in
@@ -90,83 +93,79 @@ fits-inside s l m r e h =
 
 -- ---- the buffer stays as long as it is
 
-put-length : (b : ℕ) (o : Out) → length (put b o).buffer ≡ length o.buffer
+put-length : {A : Type 0} (b : A) (o : Out A) → length (put b o).buffer ≡ length o.buffer
 unfolding put
-put-length b o = if-ind (ltb o.at (length o.buffer)) _ _ (λ (x : Out). length x.buffer ≡ length o.buffer) (λ _. length-set o.buffer o.at b) (λ _. refl)
+put-length {A} b o = if-ind (ltb o.at (length o.buffer)) _ _ (λ (x : Out A). length x.buffer ≡ length o.buffer) (λ _. length-set o.buffer o.at b) (λ _. refl)
 
-write-length : (s : Bytes) (o : Out) → length (write s o).buffer ≡ length o.buffer
+write-length : {A : Type 0} (s : List A) (o : Out A) → length (write s o).buffer ≡ length o.buffer
 unfolding write
 write-length [] o = refl
 write-length (b ∷ s) o = write-length s (put b o) ∙ put-length b o
 
-pub writes-length : (s l m : Bytes) (a r : ℕ) → Writes s l a m r → length m ≡ length l
-writes-length s l m a r e = ap (λ (o : Out). length o.buffer) e ∙ write-length s (out_of l a)
+pub writes-length : {A : Type 0} (s l m : List A) (a r : ℕ) → Writes s l a m r → length m ≡ length l
+writes-length {A} s l m a r e = ap (λ (o : Out A). length o.buffer) e ∙ write-length s (out_of l a)
 
 -- ---- the place behind a text that fits
 
-ends_at : (s l : Bytes) (at : ℕ) → at + length s ≤ length l → (write s (out_of l at)).at ≡ at + length s
+ends_at : {A : Type 0} (s l : List A) (at : ℕ) → at + length s ≤ length l → (write s (out_of l at)).at ≡ at + length s
 unfolding write
 ends_at [] l at h = omega arith
-ends_at (b ∷ s) l at h =
+ends_at {A} (b ∷ s) l at h =
     let e = length-set l at b in
-    ap (λ (o : Out). (write s o).at) (sym (put_in b l at (omega arith))) ∙ ends_at s (set l at b) (at + 1) (omega arith) ∙ omega arith
+    ap (λ (o : Out A). (write s o).at) (sym (put_in b l at (omega arith))) ∙ ends_at s (set l at b) (at + 1) (omega arith) ∙ omega arith
 
-pub writes_end : (s l m : Bytes) (a r : ℕ) → Writes s l a m r → a + length s ≤ length l → r ≡ a + length s
-writes_end s l m a r e h = ap (λ (o : Out). o.at) e ∙ ends_at s l a h
+pub writes_end : {A : Type 0} (s l m : List A) (a r : ℕ) → Writes s l a m r → a + length s ≤ length l → r ≡ a + length s
+writes_end {A} s l m a r e h = ap (λ (o : Out A). o.at) e ∙ ends_at s l a h
 
 -- ---- a text that does not fit: the place is one past the buffer's end, and stays there
 
-stays_out : (s l : Bytes) → write s (out_of l (length l + 1)) ≡ out_of l (length l + 1)
+stays_out : {A : Type 0} (s l : List A) → write s (out_of l (length l + 1)) ≡ out_of l (length l + 1)
 unfolding write put
 stays_out [] l = refl
 stays_out (b ∷ s) l = rw (le-ltb (length l + 1) (length l) (omega arith)) (stays_out s l)
 
-goes-out : (s l : Bytes) (at : ℕ) → at ≤ length l → length l < at + length s → (write s (out_of l at)).at ≡ length l + 1
+goes-out : {A : Type 0} (s l : List A) (at : ℕ) → at ≤ length l → length l < at + length s → (write s (out_of l at)).at ≡ length l + 1
 unfolding write
 goes-out [] l at h k = absurd (omega arith)
-goes-out (b ∷ s) l at h k = elim (dec_lt at (length l)) [
+goes-out {A} (b ∷ s) l at h k = elim (dec_lt at (length l)) [
   | yes i ↦
       let e = length-set l at b in
-      ap (λ (o : Out). (write s o).at) (sym (put_in b l at i)) ∙ goes-out s (set l at b) (at + 1) (omega arith) (omega arith) ∙ ap (λ (n : ℕ). n + 1) e
-  | no i ↦ ap (λ (o : Out). (write s o).at) (sym (put-out b l at (omega arith))) ∙ ap (λ (o : Out). o.at) (stays_out s l)
+      ap (λ (o : Out A). (write s o).at) (sym (put_in b l at i)) ∙ goes-out s (set l at b) (at + 1) (omega arith) (omega arith) ∙ ap (λ (n : ℕ). n + 1) e
+  | no i ↦ ap (λ (o : Out A). (write s o).at) (sym (put_out b l at (omega arith))) ∙ ap (λ (o : Out A). o.at) (stays_out s l)
 ]
 
-pub writes-past : (s l m : Bytes) (r : ℕ) → Writes s l 0 m r → length l < length s → r ≡ length l + 1
-writes-past s l m r e h = ap (λ (o : Out). o.at) e ∙ goes-out s l 0 (omega arith) (omega arith)
+pub writes-past : {A : Type 0} (s l m : List A) (r : ℕ) → Writes s l 0 m r → length l < length s → r ≡ length l + 1
+writes-past {A} s l m r e h = ap (λ (o : Out A). o.at) e ∙ goes-out s l 0 (omega arith) (omega arith)
 
--- ---- one number again and again, up to the buffer's end
+-- ---- one value again and again, up to the buffer's end
 
-replicate_next : (n v : ℕ) → replicate n v ++ v ∷ [] ≡ replicate (n + 1) v
-replicate_next zero v = refl
-replicate_next (suc n) v = let e : suc (n + 1) ≡ suc n + 1 = omega arith in ap (λ (l : Bytes). v ∷ l) (replicate_next n v) ∙ ap (λ (k : ℕ). replicate k v) e
-
-module _ (v : ℕ) (l : Bytes) (from : ℕ) where
+module _ {A : Type 0} (v : A) (l : List A) (from : ℕ) where
   pub repeat-none : Writes (replicate (from - from) v) l from l from
   unfolding write
   repeat-none = let e : from - from ≡ 0 = omega arith in sym (ap (λ (k : ℕ). write (replicate k v) (out_of l from)) e)
 
-  pub repeat-next : (m : Bytes) (at : ℕ) → from ≤ at → at < length m → Writes (replicate (at - from) v) l from m at → Writes (replicate (at + 1 - from) v) l from (set m at v) (at + 1)
+  pub repeat-next : (m : List A) (at : ℕ) → from ≤ at → at < length m → Writes (replicate (at - from) v) l from m at → Writes (replicate (at + 1 - from) v) l from (set m at v) (at + 1)
   repeat-next m at h k e =
       let n : at - from + 1 ≡ at + 1 - from = omega arith in
       then-writes (replicate (at - from) v) (v ∷ []) l m (set m at v) from at (at + 1) e (put_in v m at k)
-      ∙ ap (λ (s : Bytes). write s (out_of l from)) (replicate_next (at - from) v ∙ ap (λ (j : ℕ). replicate j v) n)
+      ∙ ap (λ (s : List A). write s (out_of l from)) (replicate-append-replicate (at - from) 1 v ∙ ap (λ (j : ℕ). replicate j v) n)
 
-  pub repeat-all : (m : Bytes) (at : ℕ) → length l ≤ at → at - from ≤ length l - from → Writes (replicate (at - from) v) l from m at → Writes (replicate (length l - from) v) l from m at
+  pub repeat-all : (m : List A) (at : ℕ) → length l ≤ at → at - from ≤ length l - from → Writes (replicate (at - from) v) l from m at → Writes (replicate (length l - from) v) l from m at
   repeat-all m at h k e = let n : at - from ≡ length l - from = omega arith in e ∙ ap (λ (j : ℕ). write (replicate j v) (out_of l from)) n
 
 -- ---- a whole buffer
 
-pub all-overwritten : (s l m : Bytes) (r : ℕ) → Writes s l 0 m r → length l ≡ length s → m ≡ s
-all-overwritten s l m r e h =
-    (fits-front s l m r e (omega arith)).0 ∙ ap (λ (x : Bytes). s ++ x) (ap (λ (j : ℕ). drop j l) (sym h) ∙ drop-length l) ∙ append-nil s
+pub all-overwritten : {A : Type 0} (s l m : List A) (r : ℕ) → Writes s l 0 m r → length l ≡ length s → m ≡ s
+all-overwritten {A} s l m r e h =
+    (fits-front s l m r e (omega arith)).0 ∙ ap (λ (x : List A). s ++ x) (ap (λ (j : ℕ). drop j l) (sym h) ∙ drop-length l) ∙ append-nil s
 
-pub all-repeated : (v : ℕ) (l m : Bytes) (r : ℕ) → Writes (replicate (length l - 0) v) l 0 m r → m ≡ replicate (length l) v
+pub all-repeated : {A : Type 0} (v : A) (l m : List A) (r : ℕ) → Writes (replicate (length l - 0) v) l 0 m r → m ≡ replicate (length l) v
 all-repeated v l m r e =
     let n : length l - 0 ≡ length l = omega arith in
     all-overwritten (replicate (length l) v) l m r (e ∙ ap (λ (j : ℕ). write (replicate j v) (out_of l 0)) n) (sym (length-replicate (length l) v))
 
 -- a text that fits, and the rest of the buffer
-pub filled-up : (v : ℕ) (s l m n : Bytes) (r q : ℕ) → Writes s l 0 m r → Writes (replicate (length m - r) v) m r n q → length s ≤ length l → n ≡ s ++ replicate (length l - length s) v
+pub filled-up : {A : Type 0} (v : A) (s l m n : List A) (r q : ℕ) → Writes s l 0 m r → Writes (replicate (length m - r) v) m r n q → length s ≤ length l → n ≡ s ++ replicate (length l - length s) v
 filled-up v s l m n r q e f h =
     let d = fits-front s l m r e h in
     let g = ap length d.0 ∙ length-append s (drop (length s) l) in

@@ -3,26 +3,26 @@ use Rattle.std.specs.Prelude.{◌≡◌, List, [], ◌∷◌, ◌++◌, ℕ, ◌
 use Rattle.rules.specs.Format.{Bytes}
 use Rattle.rules.specs.Product.{bytes, decimal}
 
-pub record Out : Type 0 where
-  pub buffer : Bytes
+pub record Out (A : Type 0) : Type 0 where
+  pub buffer : List A
   pub at : ℕ
 
-abbrev pub out_of : Bytes → ℕ → Out
+abbrev pub out_of : {A : Type 0} → List A → ℕ → Out A
 out_of l at = record { buffer = l; at = at }
 
--- one byte
-unfoldable pub put : ℕ → Out → Out
+-- one element, as a byte
+unfoldable pub put : {A : Type 0} → A → Out A → Out A
 put b o =
     if ltb o.at (length o.buffer) then out_of (set o.buffer o.at b) (o.at + 1)
     else out_of o.buffer (length o.buffer + 1)
 
 -- a text, byte by byte
-unfoldable pub write : Bytes → Out → Out
+unfoldable pub write : {A : Type 0} → List A → Out A → Out A
 write [] o = o
 write (b ∷ s) o = write s (put b o)
 
 -- the text s, written into the buffer l from a place on, makes the buffer m, and the place behind it is r
-abbrev pub Writes : Bytes → Bytes → ℕ → Bytes → ℕ → Type 0
+abbrev pub Writes : {A : Type 0} → List A → List A → ℕ → List A → ℕ → Type 0
 Writes s l at m r = out_of m r ≡ write s (out_of l at)
 
 -- the longest line of five numbers: ten digits for each number of 32 bits, twenty for the place, and one byte behind each

@@ -1,22 +1,30 @@
-// Texts into a lent buffer, and numbers into a lent array. A writer is the buffer and a place in it, and gives the place behind what it wrote. What does not fit
-// is not written, and the place is then one past the buffer's end, where every later writer leaves it.
+// Texts into a lent buffer, and numbers into a lent array. A writer is the buffer and a place in it, and gives the place behind what it
+// wrote. What does not fit is not written, and the place is then one past the buffer's end, where every later writer leaves it.
 #![tactic(auto)]
 
-ghost use Rattle.std.specs.Prelude.{◌≡◌, [], ◌∷◌, ◌++◌, ◌+◌, ◌-◌, ◌%◌, ◌≤◌, length, replicate};
+ghost use Rattle.std.specs.Prelude.{◌≡◌, [], ◌∷◌, ◌++◌, ◌+◌, ◌-◌, ◌*◌, ◌%◌, ◌<◌, ◌≤◌, length, replicate};
 ghost use Rattle.rules.specs.Base.{at_front};
 ghost use Rattle.rules.specs.Search.{five};
 ghost use Rattle.rules.specs.Product.{decimal, line};
-ghost use Rattle.writing.specs.Out.{Writes, refusal_line, longest_refusal, three};
+ghost use Rattle.writing.specs.Out.{Writes, line_of, refusal_line, longest_refusal};
+
+// One element. A slice of a type that takes no memory may be as long as a number can say; any other is shorter.
+pub fn put_element<T: Copy>(out: &mut [T], at: usize, x: T) -> usize
+    requires { length out.old < usize.MAX }
+    ensures { Writes (x ∷ []) out.old at out.new result }
+{
+    if at < out.len() {
+        out[at] = x;
+        return at + 1;
+    }
+    out.len() + 1
+}
 
 // One byte.
 pub fn put(out: &mut [u8], at: usize, b: u8) -> usize
     ensures { Writes (b ∷ []) out.old at out.new result }
 {
-    if at < out.len() {
-        out[at] = b;
-        return at + 1;
-    }
-    out.len() + 1
+    put_element(out, at, b)
 }
 
 // A number's last digit.
@@ -45,7 +53,21 @@ pub fn put_number(out: &mut [u8], from: usize, n: usize, behind: u8) -> usize
     put(out, at, behind)
 }
 
-// The line of five numbers: spaces between them, a newline at the end.
+// A line of numbers: spaces between them, a newline at the end; nothing where there is no number. A number has at most twenty digits,
+// and there is one byte behind each.
+pub fn put_line(out: &mut [u8], from: usize, numbers: &[usize]) -> usize
+    ensures writes { Writes (line_of numbers.now) out.old from out.new result }
+    ensures upper_bound { let end = from + 21 * length numbers.now in end ≤ length out.old → result ≤ end }
+{
+    let mut at = from;
+    for (i, n) in numbers.iter().enumerate() {
+        let behind = if i + 1 == numbers.len() { b'\n' } else { b' ' };
+        at = put_number(out, at, *n, behind);
+    }
+    at
+}
+
+// The line of five numbers.
 pub fn put_five(
     out: &mut [u8],
     from: usize,
@@ -57,11 +79,17 @@ pub fn put_five(
 ) -> usize
     ensures { Writes (line (five refusal place steps low high)) out.old from out.new result }
 {
-    let second = put_number(out, from, refusal as usize, b' ');
-    let third = put_number(out, second, place, b' ');
-    let fourth = put_number(out, third, steps as usize, b' ');
-    let fifth = put_number(out, fourth, low as usize, b' ');
-    put_number(out, fifth, high as usize, b'\n')
+    put_line(
+        out,
+        from,
+        &[
+            refusal as usize,
+            place,
+            steps as usize,
+            low as usize,
+            high as usize,
+        ],
+    )
 }
 
 // The longest line of a refusal: two numbers of at most twenty digits, and one byte behind each.
@@ -75,8 +103,7 @@ pub fn put_refusal(out: &mut [u8], refusal: u32, place: usize) -> usize
     if refusal == 0 {
         return 0;
     }
-    let second = put_number(out, 0, refusal as usize, b' ');
-    put_number(out, second, place, b'\n')
+    put_line(out, 0, &[refusal as usize, place])
 }
 
 // Bytes as they are.
@@ -84,34 +111,34 @@ pub fn put_bytes(out: &mut [u8], from: usize, bytes: &[u8]) -> usize
     ensures { Writes bytes.now out.old from out.new result }
 {
     let mut at = from;
-    let mut i: usize = 0;
-    while i < bytes.len() {
-        at = put(out, at, bytes[i]);
-        i += 1;
+    for b in bytes {
+        at = put(out, at, *b);
     }
     at
+}
+
+// One value again and again, up to the buffer's end.
+pub fn put_copies<T: Copy>(out: &mut [T], from: usize, value: T) -> usize
+    ensures { Writes (replicate (length out.old - from) value) out.old from out.new result }
+{
+    for i in from..out.len() {
+        out[i] = value;
+    }
+    from.max(out.len())
 }
 
 // Zeros up to the buffer's end.
 pub fn put_zeros(out: &mut [u8], from: usize) -> usize
     ensures { Writes (replicate (length out.old - from) 0) out.old from out.new result }
 {
-    let mut at = from;
-    while at < out.len() {
-        out[at] = 0;
-        at += 1;
-    }
-    at
+    put_copies(out, from, 0)
 }
 
-// Three numbers of an answer at the front of an array that has room for them.
-pub fn put_three(answer: &mut [u64], first: u32, second: usize, third: usize)
-    ensures { answer.new ≡ at_front (three first second third) answer.old }
+// An answer's numbers at the front of an array that has room for them.
+pub fn put_front<const N: usize>(answer: &mut [u64], numbers: [u64; N])
+    ensures { answer.new ≡ at_front numbers.entry answer.old }
 {
-    if answer.len() < 3 {
-        return;
+    if let Some(front) = answer.first_chunk_mut() {
+        *front = numbers;
     }
-    answer[0] = first as u64;
-    answer[1] = second as u64;
-    answer[2] = third as u64;
 }

@@ -1,47 +1,27 @@
 -- What the search leaves of `convert::convert_through`.
-use Rattle.convert.proofs.Verdicts.{when-unreadable}
-use Rattle.convert.proofs.Answers.{made-took, made-stop, stop-inside, made-long, made-short, end-inside}
-use mathlib.Core.Path.{ap, ◌∙◌}
-use Prim.Native.Nat.{ℕ}
+use mathlib.Core.Path.{◌∙◌}
 use native.Mathlib.Omega.{arith}
 use lib.ListN.{length}
-use Rattle.convert.specs.Shape.{refused_by}
+use Rattle.convert.proofs.Verdicts.{when-unreadable}
+use Rattle.convert.proofs.Answers.{made-long, made-short, end-inside}
 use Rattle.convert.proofs.convert_through.Goals as goal
 
-pub returns-then-whole-gt-LONGEST_SHEET : goal.returns-then-whole-gt-LONGEST_SHEET
-returns-then-whole-gt-LONGEST_SHEET c =
-    let arg = c.args in
-    let s = arg.text.now in
-    c.refuse-then-whole-gt-LONGEST_SHEET.ensures
-    ∙ ap (λ (k : ℕ). refused_by (length arg.sheet.now) k 0) c.number_of-then-whole-gt-LONGEST_SHEET.ensures
-    ∙ made-long s c.text_at-m.new.out 0 _ _ _ _ (made-took s c.text_at-m.new.out 0 c.text_at-m.ensures.makes c.in-Took.is)
-    (length arg.sheet.now) c.if-whole-gt-LONGEST_SHEET.true
+pub returns-in-Err : goal.returns-in-Err
+returns-in-Err c =
+    when-unreadable (length c.args.sheet.now) c.args.text.now c.in-Err.place c.in-Err.ensures.result_in_bounds c.in-Err.ensures.makes
+
+pub returns-then-w-gt-LONGEST_SHEET : goal.returns-then-w-gt-LONGEST_SHEET
+returns-then-w-gt-LONGEST_SHEET c =
+    made-long _ _ _ _ c.in-Ok.ensures.makes (length c.args.sheet.now) c.if-w-gt-LONGEST_SHEET.true
 
 pub judge-requires : goal.judge-requires
 judge-requires c =
-    let arg = c.args in
-    let s = arg.text.now in
-    let k = c.text_at-m.auto.out in
-    let p = c.requires in (
-      end-inside s c.text_at-m.new.out 0 _ _ _ _
-          (made-took s c.text_at-m.new.out 0 c.text_at-m.ensures.makes c.in-Took.is) c.if-whole-gt-LONGEST_SHEET.false (k ∙ p),
-      rw (k, p) (omega arith),
+    let k = c.text_at.auto.out in (
+      end-inside _ _ _ _ c.in-Ok.ensures.makes c.if-w-gt-LONGEST_SHEET.false (k ∙ c.requires),
+      rw (k, c.requires) (omega arith),
     )
 
-pub returns-in-Stop : goal.returns-in-Stop
-returns-in-Stop c =
-    let arg = c.args in
-    let s = arg.text.now in
-    c.refuse.ensures ∙ ap (λ (k : ℕ). refused_by (length arg.sheet.now) k c.in-Stop.q) c.number_of.ensures
-    ∙ when-unreadable (length arg.sheet.now) s c.in-Stop.q (stop-inside (length s) c.text_at-m.ensures.result_in_bounds c.in-Stop.is)
-    (made-stop s c.text_at-m.new.out 0 c.text_at-m.ensures.makes c.in-Stop.is)
-
-pub returns-else-whole-gt-LONGEST_SHEET : goal.returns-else-whole-gt-LONGEST_SHEET
-returns-else-whole-gt-LONGEST_SHEET c =
-    let arg = c.args in
-    let s = arg.text.now in
-    let k = c.text_at-m.auto.out in
-    let p = c.requires in
-    made-short s c.text_at-m.new.out 0 _ _ _ _
-    (made-took s c.text_at-m.new.out 0 c.text_at-m.ensures.makes c.in-Took.is) c.if-whole-gt-LONGEST_SHEET.false (k ∙ p)
-    (length arg.sheet.now) c.judge.ensures
+pub returns : goal.returns
+returns c =
+    made-short _ _ _ _ c.in-Ok.ensures.makes c.if-w-gt-LONGEST_SHEET.false (c.text_at.auto.out ∙ c.requires)
+    (length c.args.sheet.now) c.judge.ensures

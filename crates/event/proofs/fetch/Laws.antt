@@ -1,5 +1,5 @@
 -- A statement fetched by its number is the program's statement, or none.
-use mathlib.Core.Path.{◌≡◌, refl, sym, ap, subst, ◌∙◌}
+use mathlib.Core.Path.{◌≡◌, refl, sym, ap, subst}
 use mathlib.Core.Bool.{false}
 use mathlib.Core.List.{List}
 use Prim.Native.Nat.{ℕ, ◌+◌, ◌*◌, ◌≤◌, ◌<◌}
@@ -10,9 +10,8 @@ use Rattle.rules.specs.Program as R
 use Rattle.rules.specs.Program.{is_halt, no_statement}
 use Rattle.rules.specs.Format.{Bytes, Names}
 use Rattle.field.specs.Ticks.{tick}
-use Rattle.field.specs.Decoded.{statement_at, statement_of, action_of}
+use Rattle.field.specs.Decoded.{action_of}
 use Rattle.field.specs.declared.decoding.Action.TheVariants.{Halt}
-use Rattle.field.specs.declared.decoding.Statement.{Statement}
 use Rattle.reader.specs.Index.{no_entry}
 use Rattle.reader.specs.Facts.{program_in, thread_in, statement_in, StatementFacts, Targets}
 use Rattle.reader.proofs.Facts.{thread-in, statement-in, target-in}
@@ -21,7 +20,7 @@ use Rattle.event.specs.declared.fetch.Fetched.{Fetched}
 use Rattle.event.specs.Plan.{Ready}
 use Rattle.event.specs.Fetch.{names_of, Fetches}
 
--- ---- no statement, and the statement at a place
+-- ---- no statement
 
 not-halt : {A : Type 0} → is_halt R.halt ≡ false → A
 unfolding is_halt
@@ -42,25 +41,6 @@ none-fetches s ns at = record {
   body = λ h. not-halt h;
   inside = λ h. not-halt h;
 }
-
-pub at-fetches : (s : Bytes) (place : ℕ) (r : Statement) → r ≡ statement_at s place → r.least.0 < 65536 → r.greatest.0 < 65536
-    → (ns : Names) (at : ℕ) (x : R.Statement) → place ≡ x.place → at < most_statements → StatementFacts ns s x → Targets most_statements x.action
-    → Fetches s ns at x (record { place = place; least = r.least; greatest = r.greatest; action = r.action })
-at-fetches s place r e l g ns at x p h f w =
-    let same : r ≡ statement_of s x = e ∙ ap (statement_at s) p ∙ f.decoded in
-    record {
-      place = p;
-      least = ap (λ (y : Statement). y.least.0) same;
-      greatest = ap (λ (y : Statement). y.greatest.0) same;
-      least_small = l;
-      greatest_small = g;
-      action = ap (λ (y : Statement). y.action) same;
-      named = f.named;
-      targets = w;
-      expresses = f.expresses;
-      body = λ _. f.body;
-      inside = λ _. h;
-    }
 
 -- ---- statement k of thread t
 

@@ -1,35 +1,29 @@
 -- Narrowing by a comparison, for each way out of the code. Assumes nothing.
-use Rattle.std.specs.Prelude.{if◌then◌else◌}
-use Prim.Native.Nat.{ℕ, zero, suc, ◌+◌, ◌≤◌, ◌<◌}
+use Rattle.std.specs.Prelude.{if◌then◌else◌, None}
+use Prim.Native.Nat.{ℕ, zero, suc, ◌+◌, ◌<◌}
 use mathlib.Core.Path.{◌≡◌, refl, sym, ap, ◌∙◌}
 use mathlib.Core.Bool.{Bool, true, false}
 use mathlib.Core.Option.{Option, none, some}
 use mathlib.Core.List.{List, [], ◌∷◌, map}
 use native.Mathlib.Omega.{arith}
 use lib.Dec.{ltb, leb}
-use lib.IntN.{pred_ℤ, suc_ℤ}
+use lib.IntN.{ℤ, pred_ℤ, suc_ℤ}
 use lib.Signed.{le_z, lt_z}
-use lib.ListN.{get_or, set, take}
+use lib.ListN.{set, take}
 use lib.Seq.{take-set-lt}
-use borrow.Author.Tests.{lt-ltb, le-ltb}
 use Rattle.rules.specs.Refusal.{Refusal, bad_expression, no_such_name, Result, value, fault}
 use Rattle.rules.specs.Interval.{Interval, Operator, meet}
 use Rattle.rules.specs.Program.{Arith, operation}
-use Rattle.rules.specs.Expression.{Regs, at_most, at_least, keep, on_register, equal_yes, less_yes, less_no, compared}
+use Rattle.rules.specs.Expression.{Regs, at_most, at_least, on_register, equal_yes, less_yes, less_no, compared}
 use Rattle.rules.specs.Format as F
 use Rattle.rules.specs.Format.{Bytes, byte, Got, bad, got, and_then, need, arith_at, on_arith, read_constant, read_register, read_arith}
-use Rattle.interval.specs.declared.Val.{Val}
 use Rattle.interval.specs.declared.Span.{Span}
-use Rattle.interval.specs.Shape.{interval_of, zero_span}
-use Rattle.expression.specs.declared.comparison.Side.{Side}
-use Rattle.expression.specs.declared.comparison.Side.TheVariants.{Register, Other}
-use Rattle.expression.specs.declared.comparison.Cut.TheVariants.{Meet, AtMost, AtLeast}
+use Rattle.interval.specs.Shape.{interval_of}
 use Rattle.expression.specs.declared.kind.Relation.{Relation}
 use Rattle.expression.specs.declared.kind.Relation.TheVariants.{Equal, Less}
 use Rattle.expression.specs.Evaluation.{regs_of}
-use Rattle.expression.specs.Comparison.{register_at, side_by, side_at, side_of, cut_of, comparison_rule}
+use Rattle.expression.specs.Comparison.{register_at, side_by, side_at, side_of, comparison_rule}
 use Rattle.expression.proofs.kind.Laws.{operands}
-use Rattle.expression.proofs.evaluation.Laws.{regs-get}
 
 -- ---- a register set
 
@@ -38,68 +32,25 @@ map-set f [] i x = refl
 map-set f (y ∷ l) zero x = refl
 map-set {B} f (y ∷ l) (suc i) x = ap (λ (t : List B). f y ∷ t) (map-set f l i x)
 
-regs-set : (n : ℕ) (l : List Span) (i : ℕ) (x : Span) → i < n → regs_of n (set l i x) ≡ set (regs_of n l) i (interval_of x)
+pub regs_set : (n : ℕ) (l : List Span) (i : ℕ) (x : Span) → i < n → regs_of n (set l i x) ≡ set (regs_of n l) i (interval_of x)
 unfolding regs_of
-regs-set n l i x h = ap (take n) (map-set interval_of l i x) ∙ take-set-lt n (map interval_of l) i (interval_of x) h
+regs_set n l i x h = ap (take n) (map-set interval_of l i x) ∙ take-set-lt n (map interval_of l) i (interval_of x) h
 
-module _ (n : ℕ) (l : List Span) (i : ℕ) (k : Span) (h : i < n) where
-  pub keep_some : le_z k.low.0 k.high.0 ≡ true → some (regs_of n (set l i k)) ≡ keep (regs_of n l) i (interval_of k)
-  unfolding keep
-  keep_some e = rw (e, regs-set n l i k)
+-- ---- the rules of equal and less, where both sides are cut
 
-  pub keep-none : le_z k.low.0 k.high.0 ≡ false → none ≡ keep (regs_of n l) i (interval_of k)
-  unfolding keep
-  keep-none e = rw e
-
--- ---- a side cut
-
-module _ (f : Interval → Interval) (n : ℕ) where
-  pub cut-other : (x : Side) (o : Option Regs) → x ≡ Other → o ≡ on_register f (side_of n x) o
-  unfolding on_register
-  cut-other x o e = rw e
-
-  pub cut-absent : (x : Side) (i : ℕ) (o : Option Regs) → x ≡ Register i → n ≤ i → o ≡ on_register f (side_of n x) o
-  unfolding on_register
-  cut-absent x i o e h = rw (e, le-ltb i n h)
-
-  pub cut-empty : (x : Side) (i : ℕ) (o : Option Regs) → x ≡ Register i → i < n → o ≡ none → o ≡ on_register f (side_of n x) o
-  unfolding on_register
-  cut-empty x i o e h q = rw (e, lt-ltb i n h, q)
-
-  pub cut-is : (x : Side) (i : ℕ) (l : List Span) (o : Option Regs) (k : Span) → x ≡ Register i → i < n → o ≡ some (regs_of n l) → interval_of k ≡ f (interval_of (get_or l i zero_span))
-      → keep (regs_of n l) i (interval_of k) ≡ on_register f (side_of n x) o
-  unfolding on_register
-  cut-is x i l o k e h q v = rw (e, lt-ltb i n h, q) (ap (keep (regs_of n l) i) (v ∙ ap f (regs-get n l i h)))
-
--- ---- the rules of equal and less
-
-module _ (a b : Arith) (rs : Regs) (i j : Interval) where
-  pub equal-yes-some : (k : Span) (o : Option Regs) → interval_of k ≡ meet i j → le_z k.low.0 k.high.0 ≡ true → o ≡ on_register (cut_of (Meet k)) a (some rs)
-      → on_register (cut_of (Meet k)) b o ≡ equal_yes a b rs i j
+module _ (a b : Arith) (rs : Regs) (i j : Interval) (o : Option Regs) where
+  pub equal-yes-cut : (k : Interval) → k ≡ meet i j → le_z k.low k.high ≡ true → o ≡ on_register (λ x. meet x k) a (some rs) → on_register (λ x. meet x k) b o ≡ equal_yes a b rs i j
   unfolding equal_yes
-  equal-yes-some k o e t q = rw (← e, t, q)
+  equal-yes-cut k e t q = rw (← e, t, q)
 
-  pub equal-yes-none : (k : Span) → interval_of k ≡ meet i j → le_z k.low.0 k.high.0 ≡ false → none ≡ equal_yes a b rs i j
-  unfolding equal_yes
-  equal-yes-none k e t = rw (← e, t)
-
-  pub less-yes-some : (y z : Val) (o : Option Regs) → y.0 ≡ pred_ℤ j.high → z.0 ≡ suc_ℤ i.low → lt_z i.low j.high ≡ true → o ≡ on_register (cut_of (AtMost y)) a (some rs)
-      → on_register (cut_of (AtLeast z)) b o ≡ less_yes a b rs i j
+  pub less-yes-cut : (y z : ℤ) → y ≡ pred_ℤ j.high → z ≡ suc_ℤ i.low → lt_z i.low j.high ≡ true → o ≡ on_register (at_most y) a (some rs)
+      → on_register (at_least z) b o ≡ less_yes a b rs i j
   unfolding less_yes
-  less-yes-some y z o e f t q = rw (t, q, e, f)
+  less-yes-cut y z e f t q = rw (t, q, e, f)
 
-  pub less-yes-none : lt_z i.low j.high ≡ false → none ≡ less_yes a b rs i j
-  unfolding less_yes
-  less-yes-none t = rw t
-
-  pub less-no-some : (o : Option Regs) → le_z j.low i.high ≡ true → o ≡ on_register (at_least j.low) a (some rs)
-      → on_register (at_most i.high) b o ≡ less_no a b rs i j
+  pub less-no-cut : le_z j.low i.high ≡ true → o ≡ on_register (at_least j.low) a (some rs) → on_register (at_most i.high) b o ≡ less_no a b rs i j
   unfolding less_no
-  less-no-some o t q = rw (t, q)
-
-  pub less-no-none : le_z j.low i.high ≡ false → none ≡ less_no a b rs i j
-  unfolding less_no
-  less-no-none t = rw t
+  less-no-cut t q = rw (t, q)
 
 -- ---- a side of a comparison: what the bytes say is what the tree is
 
@@ -116,7 +67,7 @@ need-true true r p g a q e = (refl, e)
 need-true false r p g a q e = bad-got e
 
 module _ (s : Bytes) (e n p : ℕ) (f : Interval → Interval) (o : Option Regs) where
-  side-none : (k : F.ArithKind) → arith_at s e p ≡ k → side_by k (register_at s e (p + 1)) ≡ Other → on_register f (side_of n (side_at s e p)) o ≡ o
+  side-none : (k : F.ArithKind) → arith_at s e p ≡ k → side_by k (register_at s e (p + 1)) ≡ None → on_register f (side_of n (side_at s e p)) o ≡ o
   unfolding side_at on_register
   side-none k h z = rw (h, z)
 

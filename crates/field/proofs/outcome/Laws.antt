@@ -1,114 +1,70 @@
--- `end_of`, `next_of` and `count_of` of each connective of the rules: one law for each way through it, and the way back from
--- the code's answer to what the rules gave.
-use mathlib.Core.Path.{◌≡◌, refl, sym, ap, ◌∙◌}
-use mathlib.Core.Bool.{Bool, true, false, ◌&&◌}
-use mathlib.Core.List.{List}
-use Prim.Native.Nat.{ℕ}
-use native.Mathlib.Omega.{arith}
-use lib.ListN.{length}
+-- From the code's answer back to what the rules gave.
+use Rattle.std.specs.Prelude.{◌≡◌, Bool, true, false, ℕ, List, length, Result, Ok, Err, IsErrAnd}
+use Rattle.std.proofs.Common.{refl, sym, ap, ◌∙◌}
+use Rattle.std.proofs.lemmas.Result.{err_from_is_err_and}
 use Rattle.rules.specs.Refusal as R
-use Rattle.rules.specs.Format.{Got, bad, got, need, map_got, Here, wrong, more, done}
+use Rattle.rules.specs.Format.{Got, bad, got, Here, wrong, more, done}
 use Rattle.refusal.specs.declared.Refusal.{Refusal}
-use Rattle.refusal.specs.Shape.{refusal_of, rule_of}
+use Rattle.refusal.specs.declared.Fault.{Fault}
+use Rattle.refusal.specs.Shape.{refusal_of, rule_of, fault_at}
 use Rattle.refusal.proofs.Laws.{rule-of-refusal, refusal-of-rule}
-use Rattle.field.specs.declared.outcome.End.{End}
-use Rattle.field.specs.declared.outcome.End.TheVariants.{At, Refused}
-use Rattle.field.specs.declared.outcome.Next.{Next}
-use Rattle.field.specs.declared.outcome.Next.TheVariants.{Wrong, More, Done}
-use Rattle.field.specs.declared.outcome.Count.{Count}
-use Rattle.field.specs.declared.outcome.Count.TheVariants.{Found, Failed}
-use Rattle.field.specs.Outcome.{end_of, next_of, count_of}
+use Rattle.field.specs.declared.outcome.Counted.{Counted}
+use Rattle.field.specs.Outcome.{needed, end_of, next_of, count_of}
 
 -- ---- the code's refusals and the rules'
 
 pub same-rule : (k : R.Refusal) {r : Refusal} → refusal_of k ≡ r → k ≡ rule_of r
 same-rule k h = sym (rule-of-refusal k) ∙ ap rule_of h
 
--- ---- through the connectives
+-- a fault is one of the rules
+pub fault-is : (k : R.Refusal) (p : ℕ) {f : Fault} → f ≡ fault_at k p → (k ≡ rule_of f.refusal) × (p ≡ f.place)
+fault-is k p e = (same-rule k (ap (λ (x : Fault). x.refusal) (sym e)), ap (λ (x : Fault). x.place) (sym e))
 
-module _ {A : Type 0} (b : Bool) (r : R.Refusal) (at : ℕ) (g : Got A) where
-  pub need-yes : {x : End} → b ≡ true → x ≡ end_of g → x ≡ end_of (need b r at g)
-  unfolding need
-  need-yes e h = h ∙ ap (λ (t : Bool). end_of (need t r at g)) (sym e)
+pub fault-back : (f : Fault) → fault_at (rule_of f.refusal) f.place ≡ f
+fault-back f = λ i. record { refusal = refusal-of-rule f.refusal i; place = f.place }
 
-  pub need-no : b ≡ false → Refused (refusal_of r) at ≡ end_of (need b r at g)
-  unfolding need end_of
-  need-no e = ap (λ (t : Bool). end_of (need t r at g)) (sym e)
+-- ---- a check, and the exit of a `?`
 
--- a check keeps what two readings have in common
-pub need-end : {A B : Type 0} (b : Bool) (r : R.Refusal) (at : ℕ) (g : Got A) (h : Got B) → end_of g ≡ end_of h → end_of (need b r at g) ≡ end_of (need b r at h)
-unfolding need end_of
-need-end true r at g h e = e
-need-end false r at g h e = refl
+pub needed-held : (b : Bool) (r : Refusal) (p : ℕ) → Ok tt ≡ needed b r p → b ≡ true
+needed-held true r p e = refl
+needed-held false r p e = absurd (cc)
 
-pub map-end : {A B : Type 0} {x : End} (f : A → B) (g : Got A) → x ≡ end_of g → x ≡ end_of (map_got f g)
-unfolding map_got end_of
-map-end f (bad r p) h = h
-map-end f (got a q) h = h
+pub needed-failed : (b : Bool) (r : Refusal) (p : ℕ) {f : Fault} → Err f ≡ needed b r p → (b ≡ false) × (f ≡ record { refusal = r; place = p })
+needed-failed true r p e = absurd (cc)
+needed-failed false r p {f} e = (refl, let h : f ≡ record { refusal = r; place = p } = cc in h)
+
+pub exits : {A : Type 0} {f : Fault} {r x : Result A Fault} → IsErrAnd r (λ y. y ≡ f) → Err f ≡ x → r ≡ x
+exits {r = r} h e = let p = err_from_is_err_and r h in p.1 ∙ ap Err p.2 ∙ e
 
 -- ---- back from the code's answer
 
--- a refusal is not a place
-pub apart : {X : Type 0} {x : End} {q p : ℕ} {r : Refusal} → x ≡ At q → x ≡ Refused r p → X
-apart e f = let z : ◌≡◌ {A = ℕ} 0 1 = cc in absurd (omega arith)
+pub got_of : {A : Type 0} {q : ℕ} (g : Got A) → Ok q ≡ end_of g → (a : A) × (g ≡ got a q)
+got_of (bad r p) e = absurd (cc)
+got_of {q = q} (got a k) e = (a, let h : k ≡ q = cc in ap (got a) h)
 
-pub got_of : {A : Type 0} {x : End} {q : ℕ} (g : Got A) → x ≡ end_of g → x ≡ At q → (a : A) × (g ≡ got a q)
-unfolding end_of
-got_of (bad r p) e f = apart f e
-got_of {q = q} (got a k) e f = (a, let h : k ≡ q = cc in ap (got a) h)
+pub bad-of : {A : Type 0} {f : Fault} (g : Got A) → Err f ≡ end_of g → g ≡ bad (rule_of f.refusal) f.place
+bad-of {f = f} (bad k m) e = let h : f ≡ fault_at k m = cc in let w = fault-is k m h in λ j. bad (w.0 j) (w.1 j)
+bad-of (got a k) e = absurd (cc)
 
-pub bad-of : {A : Type 0} {x : End} {r : Refusal} {p : ℕ} (g : Got A) → x ≡ end_of g → x ≡ Refused r p → g ≡ bad (rule_of r) p
-unfolding end_of
-bad-of {r = r} {p = p} (bad k m) e f = let h : refusal_of k ≡ r = cc in let i : m ≡ p = cc in (λ j. bad (same-rule k h j) (i j))
-bad-of (got a k) e f = apart e f
+pub next-wrong : {at : ℕ} {f : Fault} (k : Here) → Err f ≡ next_of at k → (k ≡ wrong (rule_of f.refusal)) × (at ≡ f.place)
+next-wrong {at = at} {f = f} (wrong r) e = let h : f ≡ fault_at r at = cc in let w = fault-is r at h in (ap wrong w.0, w.1)
+next-wrong more e = absurd (cc)
+next-wrong done e = absurd (cc)
 
-pub next-wrong : (k : Here) {h : Next} {r : Refusal} → h ≡ next_of k → h ≡ Wrong r → k ≡ wrong (rule_of r)
-unfolding next_of
-next-wrong (wrong q) {r = r} e f = let g : refusal_of q ≡ r = cc in ap wrong (same-rule q g)
-next-wrong more e f = let z : ◌≡◌ {A = ℕ} 0 1 = cc in absurd (omega arith)
-next-wrong done e f = let z : ◌≡◌ {A = ℕ} 0 1 = cc in absurd (omega arith)
+pub next_more : (at : ℕ) (k : Here) {b : Bool} → Ok b ≡ next_of at k → b ≡ true → k ≡ more
+next_more at (wrong r) e t = absurd (cc)
+next_more at more e t = refl
+next_more at done {b} e t = let z : b ≡ false = cc in absurd (cc)
 
-pub next_more : (k : Here) {h : Next} → h ≡ next_of k → h ≡ More → k ≡ more
-unfolding next_of
-next_more (wrong q) e f = let z : ◌≡◌ {A = ℕ} 0 1 = cc in absurd (omega arith)
-next_more more e f = refl
-next_more done e f = let z : ◌≡◌ {A = ℕ} 0 1 = cc in absurd (omega arith)
+pub next-done : (at : ℕ) (k : Here) {b : Bool} → Ok b ≡ next_of at k → b ≡ false → k ≡ done
+next-done at (wrong r) e t = absurd (cc)
+next-done at more {b} e t = let z : b ≡ true = cc in absurd (cc)
+next-done at done e t = refl
 
-pub next-done : (k : Here) {h : Next} → h ≡ next_of k → h ≡ Done → k ≡ done
-unfolding next_of
-next-done (wrong q) e f = let z : ◌≡◌ {A = ℕ} 0 1 = cc in absurd (omega arith)
-next-done more e f = let z : ◌≡◌ {A = ℕ} 0 1 = cc in absurd (omega arith)
-next-done done e f = refl
+-- ---- and to it
 
-pub count-failed : {A : Type 0} (g : Got (List A)) {v : Count} {r : Refusal} {p : ℕ} → v ≡ count_of g → v ≡ Failed r p → g ≡ bad (rule_of r) p
-unfolding count_of
-count-failed (bad k m) {r = r} {p = p} c e = let h : refusal_of k ≡ r = cc in let n : m ≡ p = cc in (λ i. bad (same-rule k h i) (n i))
-count-failed (got xs q) c e = let z : ◌≡◌ {A = ℕ} 0 1 = cc in absurd (omega arith)
+pub fails : {A : Type 0} {G : Got (List A)} {f : Fault} → G ≡ bad (rule_of f.refusal) f.place → Err f ≡ count_of G
+fails {f = f} e = sym (ap count_of e ∙ ap Err (fault-back f))
 
-pub count-found : {A : Type 0} (g : Got (List A)) {v : Count} {n q : ℕ} → v ≡ count_of g → v ≡ Found n q → (xs : List A) × (g ≡ got xs q) × (length xs ≡ n)
-unfolding count_of
-count-found (bad a b) c e = let z : ◌≡◌ {A = ℕ} 0 1 = cc in absurd (omega arith)
-count-found (got xs k) {n = n} {q = q} c e = let f : k ≡ q = cc in let h : length xs ≡ n = cc in (xs, ap (got xs) f, h)
-
--- ---- counts of what the rules gave
-
-module _ {A : Type 0} {G : Got (List A)} where
-  pub fails : {r : Refusal} {p : ℕ} → G ≡ bad (rule_of r) p → Failed r p ≡ count_of G
-  unfolding count_of
-  fails {r} {p} e = ap (λ (k : Refusal). Failed k p) (sym (refusal-of-rule r)) ∙ sym (ap count_of e)
-
-  pub finds : {xs : List A} {n p : ℕ} → G ≡ got xs p → length xs ≡ n → Found n p ≡ count_of G
-  unfolding count_of
-  finds {p = p} e f = ap (λ (n : ℕ). Found n p) (sym f) ∙ sym (ap count_of e)
-
--- ---- tests
-
-pub and-left-no : (a b : Bool) → a ≡ false → (a && b) ≡ false
-and-left-no a b e = ap (λ (t : Bool). t && b) e
-
-pub and-right-no : (a b : Bool) → b ≡ false → (a && b) ≡ false
-and-right-no true b e = e
-and-right-no false b e = refl
-
-pub and_both : {a b c d : Bool} → a ≡ c → b ≡ d → (a && b) ≡ (c && d)
-and_both e f = λ i. e i && f i
+pub finds : {A : Type 0} {G : Got (List A)} {xs : List A} {c : Counted} → G ≡ got xs c.end → length xs ≡ c.count → Ok c ≡ count_of G
+finds {c = c} e h = sym (ap count_of e ∙ λ i. Ok (record { count = h i; end = c.end }))

@@ -7,5 +7,5 @@ use Rattle.label_main.proofs.printed.Goals as goal
 
 pub returns : goal.returns
 returns c =
-    let told = printed-line _ _ _ c.check-a.ensures.follows_the_rules refl in
+    let told = printed-line _ _ _ c.check.ensures.follows_the_rules refl in
     subst (λ (x : Bytes). Holds x c.line_of.result) told c.line_of.ensures

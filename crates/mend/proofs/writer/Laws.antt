@@ -1,7 +1,8 @@
 -- Parts of the mended sheet, written one behind another.
 use mathlib.Core.Path.{◌≡◌, refl, sym, ap, ◌∙◌, subst}
-use mathlib.Core.Bool.{Bool, true, false, ◌&&◌, true≢false}
-use mathlib.Core.Option.{Option, none}
+use Rattle.std.specs.Prelude.{Option, Some, None}
+use mathlib.Core.Bool.{Bool, true, false, ◌&&◌}
+use Rattle.std.proofs.Math.Option as O
 use mathlib.Core.List.{List, [], ◌∷◌}
 use Prim.Native.Nat.{ℕ, zero, suc, ◌+◌, ◌-◌, ◌≤◌}
 use native.Mathlib.Omega.{arith}
@@ -11,10 +12,10 @@ use Rattle.rules.specs.Format.{Bytes, byte, has_head, has_body}
 use Rattle.rules.specs.Sheets.{halt}
 use Rattle.writing.specs.Out.{write, Writes}
 use Rattle.writing.proofs.Written.{then-writes}
-use Rattle.mended.specs.Mend.{Mended, halt_added, copied, ◌then◌, is_field, behind, reversed, low_end, end_size, exchange, mended_field, not_halt, open_after, closes_at, added, mend_from, mended, numbers_of}
-use Rattle.mended.proofs.Walk.{ends-fit, then-assoc, numbers-append, mend-field, mend-end}
+use Rattle.mended.specs.Mend.{Mended, copied, ◌then◌, is_field, behind, reversed, low_end, end_size, exchange, mended_field, open_after, closes_at, added, mend_from, mended, numbers_of}
+use Rattle.mended.proofs.Walk.{field-inside, ends-fit, then-assoc, numbers-append, mend-field, mend-end}
 use Rattle.mend.specs.declared.writer.Ends.{Ends}
-use Rattle.mend.specs.Shape.{last_of, no_ends, Puts}
+use Rattle.mend.specs.Shape.{last_of, added_to, no_ends, Puts}
 use Rattle.rules.proofs.IfAt.{is_true}
 
 -- ---- a part as it is lent
@@ -87,28 +88,20 @@ module _ (s : Bytes) (at : ℕ) {b : Bool} (is : b ≡ reversed s at) where
 
 -- ---- a halt
 
-added-halt : (w c : Bool) (last : ℕ) → (w && c) ≡ true → added c (last_of w last) ≡ record { bytes = halt; changes = halt_added last ∷ [] }
-unfolding added
-added-halt true true last t = refl
-added-halt true false last t = absurd (true≢false (sym t))
-added-halt false c last t = absurd (true≢false (sym t))
+module _ (l : List ℕ) (o : Bytes) (e : Ends) where
+  pub none-put : (c : Bool) (last : Option ℕ) → None ≡ added_to c last → Puts (added c (last_of last)) o l e o l e
+  unfolding added
+  none-put true None t = puts-nothing
+  none-put true (Some p) t = absurd (cc)
+  none-put false last t = puts-nothing
 
-added_none : (w c : Bool) (last : ℕ) → (w && c) ≡ false → added c (last_of w last) ≡ copied []
-unfolding added
-added_none true true last t = absurd (true≢false t)
-added_none true false last t = refl
-added_none false true last t = refl
-added_none false false last t = refl
-
-module _ (s : Bytes) (at : ℕ) (w : Bool) (last : ℕ) {a : Bool} (is : a ≡ (w && closes_at s at)) (o : Bytes) (l : List ℕ) (e : Ends) where
-  pub halt-put : {o' : Bytes} {l' : List ℕ} {x y : ℕ} → a ≡ true → Writes halt o e.bytes o' x → Writes (2 ∷ last ∷ []) l e.numbers l' y
-      → Puts (added (closes_at s at) (last_of w last)) o l e o' l' (record { bytes = x; numbers = y })
-  unfolding numbers_of
-  halt-put {o'} {l'} {x} {y} t f g =
-      subst (λ (m : Mended). Puts m o l e o' l' (record { bytes = x; numbers = y })) (sym (added-halt w (closes_at s at) last (sym is ∙ t))) (record { bytes_put = f; changes_put = g })
-
-  pub none-put : a ≡ false → Puts (added (closes_at s at) (last_of w last)) o l e o l e
-  none-put t = subst (λ (m : Mended). Puts m o l e o l e) (sym (added_none w (closes_at s at) last (sym is ∙ t))) puts-nothing
+  pub halt-put : (c : Bool) (last : Option ℕ) {place : ℕ} → Some place ≡ added_to c last → {o' : Bytes} {l' : List ℕ} {x y : ℕ} → Writes halt o e.bytes o' x
+      → Writes (2 ∷ place ∷ []) l e.numbers l' y → Puts (added c (last_of last)) o l e o' l' (record { bytes = x; numbers = y })
+  unfolding added numbers_of
+  halt-put true None t f g = absurd (cc)
+  halt-put true (Some p) {place} t {l' = l'} {y = y} f g =
+      let i : place ≡ p = cc in record { bytes_put = f; changes_put = subst (λ (k : ℕ). Writes (2 ∷ k ∷ []) l e.numbers l' y) i g }
+  halt-put false last t f g = absurd (cc)
 
 -- ---- the sheet
 
@@ -117,28 +110,35 @@ pub whole-field : (s : Bytes) (at : ℕ) {b c : Bool} → b ≡ (has_head s at &
 unfolding is_field
 whole-field s at e t = sym e ∙ t
 
+pub field-within : (s : Bytes) (at : ℕ) → (has_head s at && has_body s at) ≡ true → behind s at ≤ length s
+unfolding is_field
+field-within s at h = field-inside s at h
+
+-- what the search is given for a walk over the fields
+pub ruleset walk_laws = (field-within)
+
 -- what is written so far, and that the rest belongs behind it
-pub record SoFar (s out₀ : Bytes) (list₀ : List ℕ) (out : Bytes) (list : List ℕ) (ends : Ends) (last : Option ℕ) (at : ℕ) : Type 0 where
+pub record SoFar (s out₀ : Bytes) (list₀ : List ℕ) (out : Bytes) (list : List ℕ) (ends : Ends) (last : O.Option ℕ) (at : ℕ) : Type 0 where
   pub part : Mended
   pub put : Puts part out₀ list₀ no_ends out list ends
   pub whole : (part then mend_from last s at) ≡ mended s
 
 module _ (s : Bytes) {out₀ : Bytes} {list₀ : List ℕ} where
-  pub so-far-none : SoFar s out₀ list₀ out₀ list₀ no_ends none 0
+  pub so-far-none : SoFar s out₀ list₀ out₀ list₀ no_ends O.none 0
   unfolding mended
   so-far-none = record { part = copied []; put = puts-nothing; whole = refl }
 
-  module _ {out : Bytes} {list : List ℕ} {ends : Ends} {last : Option ℕ} {at : ℕ} (f : SoFar s out₀ list₀ out list ends last at) (in-sheet : at ≤ length s)
+  module _ {out : Bytes} {list : List ℕ} {ends : Ends} {last : O.Option ℕ} {at : ℕ} (f : SoFar s out₀ list₀ out list ends last at) (in-sheet : at ≤ length s)
       {b : Bool} (is : b ≡ (has_head s at && has_body s at)) {o₁ : Bytes} {l₁ : List ℕ} {e₁ : Ends} (a : Puts (added (closes_at s at) last) out list ends o₁ l₁ e₁) where
-    pub so-far-field : {w : Bool} {o₂ : Bytes} {l₂ : List ℕ} {e₂ : Ends} → b ≡ true → Puts (mended_field s at) o₁ l₁ e₁ o₂ l₂ e₂ → w ≡ not_halt s at → SoFar s out₀ list₀ o₂ l₂ e₂ (last_of w at) (behind s at)
-    unfolding open_after
+    pub so-far-field : {next : O.Option ℕ} {o₂ : Bytes} {l₂ : List ℕ} {e₂ : Ends} → b ≡ true → Puts (mended_field s at) o₁ l₁ e₁ o₂ l₂ e₂ → next ≡ open_after s at
+        → SoFar s out₀ list₀ o₂ l₂ e₂ next (behind s at)
     so-far-field t m n =
         let before = added (closes_at s at) last in
         let rest = mend_from (open_after s at) s (behind s at) in
         record {
           part = f.part then (before then mended_field s at);
           put = puts_then f.part _ f.put (puts_then before (mended_field s at) a m);
-          whole = ap (λ (w : Bool). (f.part then (before then mended_field s at)) then mend_from (last_of w at) s (behind s at)) n
+          whole = ap (λ (x : O.Option ℕ). (f.part then (before then mended_field s at)) then mend_from x s (behind s at)) n
               ∙ then-assoc f.part (before then mended_field s at) rest ∙ ap (λ (x : Mended). f.part then x) (then-assoc before (mended_field s at) rest ∙ sym (mend-field s last at in-sheet (whole-field s at is t)))
               ∙ f.whole;
         }

@@ -10,7 +10,7 @@ returns-clause-three_in c =
     let is = c.print_sheet-x.ensures.text_after in
     record {
       refusal_is = ap (λ (x : Printing). x.refusal) is;
-      numbers_are = c.put_three.ensures ∙ ap (λ (x : Printing). at_front (three x.refusal x.place x.written) c.args.answer.now) is;
+      numbers_are = (rw c.from.ensures at c.put_front.ensures) ∙ ap (λ (x : Printing). at_front (three x.refusal x.place x.written) c.args.answer.now) is;
     }
 
 pub returns-clause-leaves : goal.returns-clause-leaves

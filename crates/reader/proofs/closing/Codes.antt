@@ -1,7 +1,7 @@
 -- What a statement that was read says of the bytes at its place: whether it is halt, and where it may jump. So closing a
 -- thread can go by the places of its statements.
-use Rattle.std.specs.Prelude.{if◌then◌else◌}
-use mathlib.Core.Path.{◌≡◌, refl, ap, ◌∙◌}
+use Rattle.std.specs.Prelude.{if◌then◌else◌, Ok, Err}
+use mathlib.Core.Path.{◌≡◌, refl, ◌∙◌}
 use mathlib.Core.Bool.{Bool, true, false}
 use mathlib.Core.List.{List, [], ◌∷◌}
 use Prim.Native.Nat.{ℕ, zero, suc, ◌+◌, ◌≤◌}
@@ -15,10 +15,10 @@ use Rattle.rules.specs.Constants.{most_statements}
 use Rattle.rules.specs.Program.{Action, is_halt, Statement}
 use Rattle.rules.specs.Format.{Bytes, byte, num16, Got, bad, got, need, map_got, Names, read_action, read_contents, read_statement, statement_here, read_statements, target_fits, last_halts, targets_fit, close}
 use Rattle.rules.proofs.Format.{If, need-if, map-if, many-if}
-use Rattle.refusal.specs.declared.Refusal.TheVariants.{NoSuchName, NoHalt}
-use Rattle.refusal.specs.Shape.{refusal_of}
-use Rattle.field.specs.declared.outcome.End.TheVariants.{At, Refused}
-use Rattle.field.specs.Outcome.{end_of}
+use Rattle.refusal.specs.declared.Fault.{Fault}
+use Rattle.refusal.specs.Shape.{refusal_of, rule_of, fault_at}
+use Rattle.field.specs.Outcome.{needed}
+use Rattle.field.proofs.outcome.Laws.{needed-held, needed-failed, fault-is}
 use Rattle.reader.specs.Index.{target_at, targets_at, last_at, places_of}
 
 pub map-any : {A B : Type 0} (P : B → Type 0) (f : A → B) (g : Got A) → ((a : A) → P (f a)) → If P (map_got f g)
@@ -64,30 +64,72 @@ pub codes_at : (ns : Names) (s : Bytes) (at : ℕ) → If (Each (CodeAt s)) (rea
 unfolding read_statements
 codes_at ns s at = many-if (CodeAt s) (λ n p. statement_here n s p) (λ p. read_statement ns s p) (λ p. statement-code ns s p) most_statements [] at nil
 
--- ---- closing by statements and by places
+-- ---- closing by the places of the statements
 
-need-bool : {A : Type 0} (b : Bool) (r : R.Refusal) (at : ℕ) (g : Got A) → end_of (need b r at g) ≡ (if b then end_of g else Refused (refusal_of r) at)
-unfolding need end_of
-need-bool true r at g = refl
-need-bool false r at g = refl
+-- a check of the rules, and the code's of the same
+passes : {A : Type 0} (b c : Bool) (r : R.Refusal) (p : ℕ) (g : Got A) → b ≡ c → Ok tt ≡ needed c (refusal_of r) p → need b r p g ≡ g
+unfolding need
+passes b c r p g h e = rw (h, needed-held c (refusal_of r) p e)
 
-last-same : {A : Type 0} (s : Bytes) (xs : List Statement) (g : Got A) → Each (CodeAt s) xs → end_of (last_halts xs g) ≡ last_at s (places_of xs) (end_of g)
+stops : {A : Type 0} (b c : Bool) (r : R.Refusal) (p : ℕ) (g : Got A) {f : Fault} → b ≡ c → Err f ≡ needed c (refusal_of r) p
+    → need b r p g ≡ bad (rule_of f.refusal) f.place
+unfolding need
+stops b c r p g {f} h e =
+    let w = needed-failed c (refusal_of r) p e in
+    let k = fault-is r p w.1 in
+    rw (h, w.0) (λ i. bad (k.0 i) (k.1 i))
+
+last-passes : {A : Type 0} (s : Bytes) (xs : List Statement) (g : Got A) → Each (CodeAt s) xs → Ok tt ≡ last_at s (places_of xs) → last_halts xs g ≡ g
 unfolding last_halts last_at
-last-same s [] g h = refl
-last-same s (x ∷ []) g (p & h) = need-bool (is_halt x.action) no_halt x.place g ∙ ap (λ (b : Bool). if b then end_of g else Refused NoHalt x.place) p.halts
-last-same s (x ∷ y ∷ ys) g (p & h) = last-same s (y ∷ ys) g h
+last-passes s [] g h e = refl
+last-passes s (x ∷ []) g (p & h) e = passes (is_halt x.action) (eqb (byte s (x.place + 7)) 0) no_halt x.place g p.halts e
+last-passes s (x ∷ y ∷ ys) g (p & h) e = last-passes s (y ∷ ys) g h e
 
-targets-same : {A : Type 0} (s : Bytes) (n : ℕ) (xs : List Statement) (g : Got A) → Each (CodeAt s) xs → end_of (targets_fit n xs g) ≡ targets_at s n (places_of xs) (end_of g)
+last-stops : {A : Type 0} (s : Bytes) (xs : List Statement) (g : Got A) {f : Fault} → Each (CodeAt s) xs → Err f ≡ last_at s (places_of xs)
+    → last_halts xs g ≡ bad (rule_of f.refusal) f.place
+unfolding last_halts last_at
+last-stops s [] g h e = absurd (cc)
+last-stops s (x ∷ []) g (p & h) e = stops (is_halt x.action) (eqb (byte s (x.place + 7)) 0) no_halt x.place g p.halts e
+last-stops s (x ∷ y ∷ ys) g (p & h) e = last-stops s (y ∷ ys) g h e
+
+targets-pass : {A : Type 0} (s : Bytes) (n : ℕ) (xs : List Statement) (g : Got A) → Each (CodeAt s) xs → Ok tt ≡ targets_at s n (places_of xs)
+    → targets_fit n xs g ≡ g
 unfolding targets_fit targets_at
-targets-same s n [] g h = refl
-targets-same s n (x ∷ xs) g (p & h) =
-    need-bool (target_fits n x.action) no_such_name x.place (targets_fit n xs g)
-    ∙ (λ i. if p.jumps n i then targets-same s n xs g h i else Refused NoSuchName x.place)
+targets-pass s n [] g h e = refl
+targets-pass s n (x ∷ xs) g (p & h) e = by (target_at s n x.place) refl e (targets-pass s n xs g h)
+  where
+    by : (b : Bool) → target_at s n x.place ≡ b → Ok tt ≡ (if b then targets_at s n (places_of xs) else Err (fault_at no_such_name x.place))
+        → (Ok tt ≡ targets_at s n (places_of xs) → targets_fit n xs g ≡ g) → need (target_fits n x.action) no_such_name x.place (targets_fit n xs g) ≡ g
+    by true t e i = passes (target_fits n x.action) true no_such_name x.place (targets_fit n xs g) (p.jumps n ∙ t) refl ∙ i e
+    by false t e i = absurd (cc)
 
-pub close-same : (s : Bytes) (xs : List Statement) (q : ℕ) → Each (CodeAt s) xs
-    → end_of (close (got xs q)) ≡ last_at s (places_of xs) (targets_at s (length xs) (places_of xs) (At q))
-unfolding close end_of
-close-same s xs q h = last-same s xs (targets_fit (length xs) xs (got xs q)) h ∙ ap (last_at s (places_of xs)) (targets-same s (length xs) xs (got xs q) h)
+targets-stop : {A : Type 0} (s : Bytes) (n : ℕ) (xs : List Statement) (g : Got A) {f : Fault} → Each (CodeAt s) xs → Err f ≡ targets_at s n (places_of xs)
+    → targets_fit n xs g ≡ bad (rule_of f.refusal) f.place
+unfolding targets_fit targets_at
+targets-stop s n [] g h e = absurd (cc)
+targets-stop s n (x ∷ xs) g {f} (p & h) e = by (target_at s n x.place) refl e (targets-stop s n xs g h)
+  where
+    by : (b : Bool) → target_at s n x.place ≡ b → Err f ≡ (if b then targets_at s n (places_of xs) else Err (fault_at no_such_name x.place))
+        → (Err f ≡ targets_at s n (places_of xs) → targets_fit n xs g ≡ bad (rule_of f.refusal) f.place)
+        → need (target_fits n x.action) no_such_name x.place (targets_fit n xs g) ≡ bad (rule_of f.refusal) f.place
+    by true t e i = passes (target_fits n x.action) true no_such_name x.place (targets_fit n xs g) (p.jumps n ∙ t) refl ∙ i e
+    by false t e i = stops (target_fits n x.action) false no_such_name x.place (targets_fit n xs g) (p.jumps n ∙ t) e
+
+module _ (s : Bytes) (xs : List Statement) (q : ℕ) (h : Each (CodeAt s) xs) where
+  pub close-unhalted : {f : Fault} → Err f ≡ last_at s (places_of xs) → close (got xs q) ≡ bad (rule_of f.refusal) f.place
+  unfolding close
+  close-unhalted e = last-stops s xs (targets_fit (length xs) xs (got xs q)) h e
+
+  module _ (a : Ok tt ≡ last_at s (places_of xs)) where
+    pub close-untargeted : {f : Fault} → Err f ≡ targets_at s (length xs) (places_of xs) → close (got xs q) ≡ bad (rule_of f.refusal) f.place
+    unfolding close
+    close-untargeted e =
+        last-passes s xs (targets_fit (length xs) xs (got xs q)) h a ∙ targets-stop s (length xs) xs (got xs q) h e
+
+    pub close-whole : Ok tt ≡ targets_at s (length xs) (places_of xs) → close (got xs q) ≡ got xs q
+    unfolding close
+    close-whole e =
+        last-passes s xs (targets_fit (length xs) xs (got xs q)) h a ∙ targets-pass s (length xs) xs (got xs q) h e
 
 -- ---- closing gives back what it was given
 

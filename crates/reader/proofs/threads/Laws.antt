@@ -1,176 +1,73 @@
--- A thread, as the code reads it: its field, its registers, its statements, its closing.
-use mathlib.Core.Path.{◌≡◌, refl, sym, ap, subst, ◌∙◌}
-use mathlib.Core.List.{List, [], ◌∷◌, ◌++◌}
-use Prim.Native.Nat.{ℕ, zero, suc, ◌+◌, ◌≤◌}
-use native.Mathlib.Omega.{arith}
-use lib.Dec.{T, leb, eqb, leb→le}
-use lib.ListN.{length, take, drop, length-append}
-use lib.Seq.{sets, sets-eq, slice, drop_at, take_at, length-take-le, length-sets}
+-- A thread, as the code reads it: its statements' places at the front of a table, and its closing; and what is known of a thread
+-- that was read.
+use Rattle.std.specs.Prelude.{◌≡◌, List, [], ◌∷◌, ◌++◌, ℕ, zero, suc, ◌+◌, ◌≤◌, length, take, T, leb, eqb, Ok, Err}
+use Rattle.std.proofs.Common.{refl, sym, ap, subst, ◌∙◌, arith, length-append}
+use Rattle.std.proofs.Math.Seq.{take-append_seam}
+use Rattle.std.proofs.lemmas.List.{length-map}
+use Rattle.std.proofs.lemmas.List.Edits.{sets, sets-eq}
+use lib.Dec.{leb→le}
 use Rattle.rules.specs.Base.{Each}
 use Rattle.rules.specs.Constants.{most_registers, most_statements}
 use Rattle.rules.specs.Refusal.{short, bad_length, off_range}
 use Rattle.rules.specs.Interval.{Interval}
 use Rattle.rules.specs.Program.{Statement, Thread}
-use Rattle.rules.specs.Format.{Bytes, byte, num16, Got, bad, got, and_then, Names, sized, has_body, due, read_range, read_registers, read_statements, close, read_thread}
+use Rattle.rules.specs.Format.{Bytes, byte, num16, Got, bad, got, Names, sized, has_body, due, read_range, read_registers, read_statements, close, read_thread}
 use Rattle.rules.proofs.Format.{If, need-if, then_if, then-any}
-use Rattle.refusal.specs.declared.Refusal.{Refusal}
-use Rattle.refusal.specs.Shape.{refusal_of, rule_of}
-use Rattle.field.specs.declared.outcome.End.{End}
-use Rattle.field.specs.declared.outcome.End.TheVariants.{At, Refused}
-use Rattle.field.specs.declared.outcome.Count.{Count}
-use Rattle.field.specs.declared.outcome.Count.TheVariants.{Found, Failed}
-use Rattle.field.specs.Outcome.{end_of}
-use Rattle.field.proofs.outcome.Laws.{got_of, bad-of, same-rule}
-use Rattle.field.proofs.fields.Laws.{names_field}
-use Rattle.reader.specs.Index.{targets_at, last_at, places_of, StatementsRead, failure, ThreadRead}
-use Rattle.refusal.proofs.Laws.{refusal-of-rule}
-use Rattle.reader.proofs.Filled.{map-length}
-use Rattle.reader.proofs.closing.Codes.{CodeAt, codes_at, close-same, close-gives}
-
--- ---- what the code's answers on statements say
-
-module _ (base : ℕ) (l m : List ℕ) where
-  statements-failed : (g : Got (List Statement)) {x : Count} {r : Refusal} {p : ℕ} → StatementsRead g base l m x → x ≡ Failed r p → g ≡ bad (rule_of r) p
-  unfolding StatementsRead
-  statements-failed (bad a b) {r = r} {p = p} c e = let f : refusal_of a ≡ r = cc in let k : b ≡ p = cc in (λ i. bad (same-rule a f i) (k i))
-  statements-failed (got xs q) c e = let d = c.0 in let z : ◌≡◌ {A = ℕ} 0 1 = cc in absurd (omega arith)
-
-  -- n statements, which end at q, with their places in the table
-  record Stored (g : Got (List Statement)) (n q : ℕ) : Type 0 where
-    items : List Statement
-    reads : g ≡ got items q
-    count : length items ≡ n
-    table : m ≡ sets l base (places_of items)
-    few : length items ≤ most_statements
-
-  stored : (g : Got (List Statement)) {x : Count} {n q : ℕ} → StatementsRead g base l m x → x ≡ Found n q → Stored g n q
-  unfolding StatementsRead
-  stored (bad a b) c e = let z : ◌≡◌ {A = ℕ} 0 1 = cc in absurd (omega arith)
-  stored (got xs k) {n = n} {q = q} c e =
-      let d = c.0 in let f : k ≡ q = cc in let h : length xs ≡ n = cc in
-      record { items = xs; reads = ap (got xs) f; count = h; table = c.1; few = c.2 }
+use Rattle.refusal.specs.declared.Fault.{Fault}
+use Rattle.refusal.specs.Shape.{rule_of}
+use Rattle.field.specs.declared.outcome.Counted.{Counted}
+use Rattle.reader.specs.Index.{places_of, targets_at, last_at, StatementsRead}
+use Rattle.reader.proofs.closing.Codes.{CodeAt, codes_at, close-unhalted, close-untargeted, close-whole}
 
 -- ---- the places that were stored are those of the statements
 
-slice-sets : (l : List ℕ) (i : ℕ) (vs : List ℕ) → i + length vs ≤ length l → slice i (i + length vs) (sets l i vs) ≡ vs
-slice-sets l i vs h =
-    let a : length (take i l) ≡ i = length-take-le i l (omega arith) in
-    let b : length (take i l ++ vs) ≡ i + length vs = simp length-append (omega arith) in
-    ap (λ (k : List ℕ). slice i (i + length vs) k) (sets-eq vs l i h)
-    ∙ ap (drop i) (take_at (take i l ++ vs) (drop (i + length vs) l) (i + length vs) b)
-    ∙ drop_at (take i l) vs i a
+take-sets : (l vs : List ℕ) → length vs ≤ length l → take (length vs) (sets l 0 vs) ≡ vs
+take-sets l vs h = ap (take (length vs)) (sets-eq vs l 0 (omega arith)) ∙ take-append_seam vs _
 
 abbrev place : Statement → ℕ
 place x = x.place
 
-module _ (base : ℕ) (l m : List ℕ) {g : Got (List Statement)} {n q : ℕ} (w : Stored base l m g n q) (room : base + most_statements ≤ length l) where
-  stored-places : slice base (base + n) m ≡ places_of w.items
-  stored-places =
-      let a : n ≡ length (places_of w.items) = sym (map-length place w.items ∙ w.count) in
-      let c = w.count in let d = w.few in
-      let r : base + n ≤ length l = omega arith in
-      (λ i. slice base (base + a i) (w.table i)) ∙ slice-sets l base (places_of w.items) (subst (λ (k : ℕ). base + k ≤ length l) a r)
+-- the statements that were read, and their places at the front of the table
+record Stored (G : Got (List Statement)) (m : List ℕ) (c : Counted) : Type 0 where
+  items : List Statement
+  reads : G ≡ got items c.end
+  places : take c.count m ≡ places_of items
+  count : length (take c.count m) ≡ length items
 
-  stored-room : base + n ≤ length m
-  stored-room =
-      let c = w.count in let d = w.few in
-      let j : length m ≡ length l = ap length w.table ∙ length-sets l base (places_of w.items) in omega arith
+stored : (G : Got (List Statement)) (l m : List ℕ) {c : Counted} → most_statements ≤ length l → StatementsRead G l m (Ok c) → Stored G m c
+stored (bad r p) l m room h = absurd (cc)
+stored (got xs q) l m {c} room h =
+    let few = h.2 in
+    let e : c ≡ record { count = length xs; end = q } = cc in
+    let n : c.count ≡ length (places_of xs) = ap (λ (c : Counted). c.count) e ∙ sym (length-map xs place) in
+    let f : length (places_of xs) ≤ length l = let k = length-map xs place in omega arith in
+    let same : take c.count m ≡ places_of xs = (λ i. take (n i) (h.1 i)) ∙ take-sets l (places_of xs) f in
+    record {
+      items = xs;
+      reads = ap (got xs) (sym (ap (λ (c : Counted). c.end) e));
+      places = same;
+      count = ap length same ∙ length-map xs place;
+    }
 
-  stored-closes : (s : Bytes) → Each (CodeAt s) w.items → {z : End}
-      → z ≡ last_at s (slice base (base + n) m) (targets_at s n (slice base (base + n) m) (At q)) → z ≡ end_of (close (got w.items q))
-  stored-closes s h e =
-      e ∙ (λ i. last_at s (stored-places i) (targets_at s (sym w.count i) (stored-places i) (At q))) ∙ sym (close-same s w.items q h)
+module _ (ns : Names) (s : Bytes) (p : ℕ) (l m : List ℕ) (c : Counted) (room : most_statements ≤ length l)
+    (h : StatementsRead (read_statements ns s p) l m (Ok c)) where
+  w : Stored (read_statements ns s p) m c
+  w = stored (read_statements ns s p) l m room h
 
--- what closing asks of the table
-pub close-room : (g : Got (List Statement)) (base : ℕ) (l m : List ℕ) {x : Count} {n q : ℕ} → StatementsRead g base l m x → x ≡ Found n q
-    → base + most_statements ≤ length l → base + n ≤ length m
-close-room g base l m e f room = stored-room base l m (stored base l m g e f) room
+  codes : Each (CodeAt s) w.items
+  codes = subst (If (Each (CodeAt s))) w.reads (codes_at ns s p)
 
--- ---- the whole
+  pub unhalted : {f : Fault} → Err f ≡ last_at s (take c.count m) → close (read_statements ns s p) ≡ bad (rule_of f.refusal) f.place
+  unhalted e = ap close w.reads ∙ close-unhalted s w.items c.end codes (e ∙ ap (last_at s) w.places)
 
-pub failure-is : {x : End} {y : Count} {r : Refusal} {p : ℕ} → y ≡ failure x → x ≡ Refused r p → y ≡ Failed r p
-unfolding failure
-failure-is e f = e ∙ ap failure f
+  module _ (a : Ok tt ≡ last_at s (take c.count m)) where
+    pub untargeted : {f : Fault} → Err f ≡ targets_at s (length (take c.count m)) (take c.count m) → close (read_statements ns s p) ≡ bad (rule_of f.refusal) f.place
+    untargeted e =
+        ap close w.reads ∙ close-untargeted s w.items c.end codes (a ∙ ap (last_at s) w.places) (e ∙ (λ i. targets_at s (w.count i) (w.places i)))
 
-module _ (vars locks : ℕ) (s : Bytes) (at : ℕ) where
-  abbrev names : ℕ → Names
-  names n = record { regs = n; vars = vars; locks = locks }
-
-  module _ (base : ℕ) (l m : List ℕ) where
-    read-failed : (r : Refusal) {p : ℕ} {y : Count} → read_thread vars locks s at ≡ bad (rule_of r) p → y ≡ Failed r p → ThreadRead (read_thread vars locks s at) base l m y
-    unfolding ThreadRead
-    read-failed r {p} {y} e f =
-        subst (λ (g : Got Thread). ThreadRead g base l m y) (sym e) (f ∙ ap (λ (k : Refusal). Failed k p) (sym (refusal-of-rule r)))
-
-  -- the field is read, with n registers, and the statements stand from q on
-  pub record Begun (n q : ℕ) : Type 0 where
-    pub regs : List Interval
-    pub rest : read_thread vars locks s at ≡ and_then (close (read_statements (names n) s q)) (λ xs r. got (record { place = at; regs = regs; statements = xs }) r)
-
-  module _ {x : End} (ex : x ≡ end_of (names_field s at)) where
-    pub thread-unopened : (base : ℕ) (l m : List ℕ) {y : Count} (r : Refusal) {p : ℕ} → x ≡ Refused r p → y ≡ failure x → ThreadRead (read_thread vars locks s at) base l m y
-    unfolding read_thread and_then
-    thread-unopened base l m r f e = read-failed base l m r (let g = bad-of (names_field s at) ex f in rw g) (failure-is e f)
-
-    module _ {p : ℕ} (fx : x ≡ At p) (n : ℕ) (en : n ≡ byte s (at + 3)) {y : End} (ey : y ≡ end_of (read_registers n [] s p)) where
-      same : (g : Got (List Interval)) → read_registers n [] s p ≡ g → read_registers (byte s (at + 3)) [] s p ≡ g
-      same g e = ap (λ (k : ℕ). read_registers k [] s p) (sym en) ∙ e
-
-      pub thread-registers : (base : ℕ) (l m : List ℕ) {z : Count} (r : Refusal) {q : ℕ} → y ≡ Refused r q → z ≡ failure y → ThreadRead (read_thread vars locks s at) base l m z
-      unfolding read_thread and_then
-      thread-registers base l m r {q} f e =
-          let o = got_of (names_field s at) ex fx in
-          let g = same (bad (rule_of r) q) (bad-of (read_registers n [] s p) ey f) in
-          read-failed base l m r (rw (o.1, g)) (failure-is e f)
-
-      pub begun : {q : ℕ} → y ≡ At q → Begun n q
-      unfolding read_thread and_then
-      begun {q} f =
-          let o = got_of (names_field s at) ex fx in
-          let w = got_of (read_registers n [] s p) ey f in
-          let g = same (got w.0 q) w.1 in
-          record { regs = w.0; rest = rw (o.1, g, sym en) }
-
-  module _ {n q : ℕ} (b : Begun n q) where
-    after : (g : Got (List Statement)) → close (read_statements (names n) s q) ≡ g
-        → read_thread vars locks s at ≡ and_then g (λ xs r. got (record { place = at; regs = b.regs; statements = xs }) r)
-    after g e = b.rest ∙ ap (λ (g : Got (List Statement)). and_then g (λ xs r. got (record { place = at; regs = b.regs; statements = xs }) r)) e
-
-  module _ {n q : ℕ} (b : Begun n q) (base : ℕ) (l m : List ℕ) {k : Count} (ek : StatementsRead (read_statements (names n) s q) base l m k) where
-    pub thread-statements : (r : Refusal) {p : ℕ} → k ≡ Failed r p → ThreadRead (read_thread vars locks s at) base l m k
-    unfolding close and_then
-    thread-statements r {p} f = read-failed base l m r (after b (bad (rule_of r) p) (ap close (statements-failed base l m (read_statements (names n) s q) ek f))) f
-
-    module _ {c e : ℕ} (fk : k ≡ Found c e) (room : base + most_statements ≤ length l) {z : End}
-        (ez : z ≡ last_at s (slice base (base + c) m) (targets_at s c (slice base (base + c) m) (At e))) where
-      held : Stored base l m (read_statements (names n) s q) c e
-      held = stored base l m (read_statements (names n) s q) ek fk
-
-      shut : z ≡ end_of (close (got held.items e))
-      shut = stored-closes base l m held room s (subst (If (Each (CodeAt s))) held.reads (codes_at (names n) s q)) ez
-
-      closing : (g : Got (List Statement)) → close (got held.items e) ≡ g → close (read_statements (names n) s q) ≡ g
-      closing g h = ap close held.reads ∙ h
-
-      pub thread-unclosed : {y : Count} (r : Refusal) {p : ℕ} → z ≡ Refused r p → y ≡ failure z → ThreadRead (read_thread vars locks s at) base l m y
-      unfolding and_then
-      thread-unclosed r {p} f y =
-          read-failed base l m r (after b (bad (rule_of r) p) (closing (bad (rule_of r) p) (bad-of (close (got held.items e)) shut f))) (failure-is y f)
-
-      pub thread-whole : {p : ℕ} → z ≡ At p → ThreadRead (read_thread vars locks s at) base l m (Found c p)
-      unfolding ThreadRead and_then
-      thread-whole {p} f =
-          let w = got_of (close (got held.items e)) shut f in
-          let h = close-gives held.items e w.0 p w.1 in
-          let same : held.items ≡ w.0 = cc in
-          let t : Thread = record { place = at; regs = b.regs; statements = w.0 } in
-          let whole : read_thread vars locks s at ≡ got t p = after b (got w.0 p) (closing (got w.0 p) w.1) in
-          let d = held.few in
-          subst (λ (g : Got Thread). ThreadRead g base l m (Found c p)) (sym whole) (
-            ap (λ (j : ℕ). Found j p) (sym held.count ∙ ap length same),
-            held.table ∙ ap (λ (xs : List Statement). sets l base (places_of xs)) same,
-            subst (λ (xs : List Statement). length xs ≤ most_statements) same d,
-          )
+    pub whole : Ok tt ≡ targets_at s (length (take c.count m)) (take c.count m) → close (read_statements ns s p) ≡ read_statements ns s p
+    whole e =
+        ap close w.reads ∙ close-whole s w.items c.end codes (a ∙ ap (last_at s) w.places) (e ∙ (λ i. targets_at s (w.count i) (w.places i))) ∙ sym w.reads
 
 -- ---- what is known of a thread that was read
 

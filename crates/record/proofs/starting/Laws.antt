@@ -1,131 +1,110 @@
 -- Starting values, one by one, and the threads with theirs.
-use Rattle.std.proofs.Common.{◌≡◌, ℕ, zero, suc, ◌+◌, ◌<◌, ◌≤◌, Bool, true, false, eqb, List, [], ◌∷◌, ◌++◌, map, length, get_or, take, drop, set, replicate, ℤ, sym, refl, ap, ◌∙◌, le_of_suc-le-suc, not-suc-le-zero, add-one, arith, drop_of_length-le, length-take-le, take_all, drop-cons}
+use Rattle.std.proofs.Common.{◌≡◌, ℕ, zero, suc, ◌+◌, ◌<◌, ◌≤◌, List, [], ◌∷◌, ◌++◌, map, length, get_or, take, drop, set, replicate, ℤ, sym, refl, ap, ◌∙◌, le_of_suc-le-suc, not-suc-le-zero, add-one, arith, drop_of_length-le, take_all, drop-cons}
+use Rattle.std.proofs.lemmas.List.{get_or-map, length-map, take-map}
 use mathlib.Core.Option.{none}
-use lib.ListN.{length-map}
+use Rattle.rules.specs.Constants.{most_registers, most_locks}
 use Rattle.rules.specs.Refusal as R
-use Rattle.rules.specs.Refusal.{short, out_of_turn, bad_length, off_range}
 use Rattle.rules.specs.Interval.{Interval}
 use Rattle.rules.specs.Expression.{zero_interval}
-use Rattle.rules.specs.Format.{Bytes, Got, bad, got, and_then, need, byte, num16, int32, has_head, has_body, due, sized}
-use Rattle.rules.specs.Constants.{most_locks}
+use Rattle.rules.specs.Format.{Bytes, Got, bad, got, and_then}
 use Rattle.rules.specs.Lock.{Owner}
 use Rattle.rules.specs.Program.{Program, no_thread}
 use Rattle.rules.specs.Run as Run
-use Rattle.refusal.specs.declared.Refusal.{Refusal}
-use Rattle.refusal.specs.Shape.{rule_of}
 use Rattle.interval.specs.declared.Val.{Val}
 use Rattle.interval.specs.declared.Span.{Span}
-use Rattle.interval.specs.Shape.{interval_of, zero_span}
-use Rattle.interval.specs.Bounds.{holds}
-use Rattle.expression.specs.declared.parts.Check.{Check}
-use Rattle.expression.specs.declared.parts.Check.TheVariants.{Passed, Fault}
+use Rattle.interval.specs.Shape.{interval_of}
 use Rattle.expression.specs.Evaluation.{regs_of}
-use Rattle.field.specs.declared.outcome.End.{End}
-use Rattle.field.specs.declared.outcome.End.TheVariants.{At, Refused}
-use Rattle.field.specs.Outcome.{end_of}
+use Rattle.reader.specs.Index.{no_entry}
 use Rattle.reader.specs.Facts.{thread_in}
-use Rattle.state.specs.Shape.{Sizes, owners_of, sizes_of}
-use Rattle.state.proofs.Shape.{regs-get, sizes-threads, sizes-regs}
-use Rattle.recorded.specs.Follow as F
+use Rattle.state.specs.declared.State.{State}
+use Rattle.state.specs.Access.{thread_at}
+use Rattle.state.specs.Shape.{owners_of, sizes_of}
+use Rattle.state.proofs.Shape.{sizes-threads, sizes-regs}
+use Rattle.event.specs.Fetch.{OfProgram}
+use Rattle.event.proofs.fetch.Asks.{of-program}
 use Rattle.recorded.specs.Follow.{start_value, start_values, at_start, start_threads, start_replay}
 use Rattle.record.specs.Known.{number_of, values_of}
-use Rattle.record.specs.Replay.{unless_fault, thread_of, threads_of, after}
-use Rattle.record.specs.Reached.{placed}
-use Rattle.record.specs.Start.{started_with}
+use Rattle.record.specs.Replay.{thread_of, threads_of, state_of, replay_of}
+use Rattle.record.specs.Sheet.{program_of, sizes_in, IsReady}
+use Rattle.record.specs.Start.{StartsFrom}
 use Rattle.record.specs.declared.replay.RunThread.{RunThread}
-use Rattle.record.proofs.known.Laws.{view-more}
-use Rattle.record.proofs.events.Laws.{field_at, field-refused, field-read, field-here}
+use Rattle.record.specs.declared.sheet.Sheet.{Sheet}
 
--- ---- one value: its field, then its range
+-- ---- a list with one more of its elements written
 
--- the check of the contents may wait until the field is read
-checks-wait : {A B : Type 0} (a b c d : Bool) (at : ℕ) (n : A) (q : ℕ) (f : A → ℕ → Got B)
-    → and_then (need a short at (need b out_of_turn at (need c short at (need d bad_length at (need true off_range at (got n q)))))) f
-    ≡ need a short at (need b out_of_turn at (need c short at (need d bad_length at (f n q))))
-unfolding and_then need
-checks-wait false b c d at n q f = refl
-checks-wait true false c d at n q f = refl
-checks-wait true true false d at n q f = refl
-checks-wait true true true false at n q f = refl
-checks-wait true true true true at n q f = refl
-
-module _ (range : Interval) (r : Bytes) (at : ℕ) where
-  abbrev z : ℤ
-  z = int32 r (at + 3)
-
-  -- what is made of the field
-  behind_field : Got ℕ → Got ℤ
-  behind_field g = and_then g (λ _ q. need (holds range z) off_range at (got z q))
-
-  by_field : {g : Got ℕ} → field_at 32 4 r at ≡ g → behind_field g ≡ start_value range r at
-  unfolding behind_field start_value due sized
-  by_field e =
-      ap behind_field (sym e)
-      ∙ checks-wait (has_head r at) (eqb (byte r at) 32) (has_body r at) (eqb (num16 r (at + 1)) 4) at 4 (at + 3 + 4) (λ _ q. need (holds range z) off_range at (got z q))
-
-  module _ {e : End} (h : e ≡ end_of (field_at 32 4 r at)) where
-    pub value-refused : {q : Refusal} {p : ℕ} → e ≡ Refused q p → bad (rule_of q) p ≡ start_value range r at
-    unfolding behind_field and_then
-    value-refused k = by_field (field-refused 32 4 r at h k)
-
-    module _ {q : ℕ} (k : e ≡ At q) where
-      pub value_room : at + 3 + 4 ≤ length r
-      value_room = (field-here 32 4 r at h k).0.fits
-
-      value-checked : {v : ℤ} {b : Bool} → v ≡ z → holds range v ≡ b → need b off_range at (got z q) ≡ start_value range r at
-      unfolding behind_field and_then
-      value-checked i j = ap (λ (b : Bool). need b off_range at (got z q)) (sym j ∙ ap (holds range) i) ∙ by_field (field-read 32 4 r at h k).1
-
-      pub value-off : {v : ℤ} → v ≡ z → holds range v ≡ false → bad off_range at ≡ start_value range r at
-      unfolding need
-      value-off i j = value-checked i j
-
-      pub value_is : {v : ℤ} → v ≡ z → holds range v ≡ true → got v q ≡ start_value range r at
-      unfolding need
-      value_is i j = ap (λ (w : ℤ). got w q) i ∙ value-checked i j
+pub view-more : {A B : Type 0} (f : A → B) (k : ℕ) (l : List A) (x : A) → k < length l → take (suc k) (map f (set l k x)) ≡ take k (map f l) ++ (f x ∷ [])
+view-more f k [] x h = absurd (not-suc-le-zero h)
+view-more f zero (a ∷ l) x h = refl
+view-more {A} {B} f (suc k) (a ∷ l) x h = ap (λ (r : List B). f a ∷ r) (view-more f k l x (le_of_suc-le-suc h))
 
 -- ---- values one behind the other
 
-pub values-more : (k : ℕ) (l : List Val) (w : Val) → k < length l → values_of (k + 1) (set l k w) ≡ values_of k l ++ (w.0 ∷ [])
+values-more : (k : ℕ) (l : List Val) (w : Val) → k < length l → values_of (k + 1) (set l k w) ≡ values_of k l ++ (w.0 ∷ [])
 unfolding values_of
 values-more k l w h = rw (add-one) (view-more number_of k l w h)
 
-pub regs-length : (n : ℕ) (l : List Span) → n ≤ length l → length (regs_of n l) ≡ n
-unfolding regs_of
-regs-length n l h = length-take-le n (map interval_of l) (simp length-map h)
-
 -- from ranges that were read up to number k, at a place, with the values of those
-module _ (n : ℕ) (ranges : List Span) (r : Bytes) (few : n ≤ length ranges) where
-  abbrev from : ℕ → List Val → ℕ → Got (List ℤ)
-  from k l at = start_values (drop k (regs_of n ranges)) (values_of k l) r at
+module _ (ranges : List Span) (r : Bytes) where
+  abbrev intervals : List Interval
+  intervals = map interval_of ranges
 
-  pub values-start : (l : List Val) (at : ℕ) → start_values (regs_of n ranges) [] r at ≡ from 0 l at
+  abbrev pub values_from : ℕ → List Val → ℕ → Got (List ℤ)
+  values_from k l at = start_values (drop k intervals) (values_of k l) r at
+
+  pub values-start : (l : List Val) (at : ℕ) → start_values intervals [] r at ≡ values_from 0 l at
   unfolding values_of
   values-start l at = refl
 
-  pub values-end : (k : ℕ) (l : List Val) (at : ℕ) → n ≤ k → from k l at ≡ got (values_of k l) at
+  pub values-end : (k : ℕ) (l : List Val) (at : ℕ) → length ranges ≤ k → values_from k l at ≡ got (values_of k l) at
   unfolding start_values
   values-end k l at h =
-      let e = regs-length n ranges few in
-      let past : length (regs_of n ranges) ≤ k = omega arith in
-      rw (drop_of_length-le (regs_of n ranges) past)
+      let past : length intervals ≤ k = omega (arith, length-map ranges interval_of) in
+      rw (drop_of_length-le intervals past)
 
-  module _ (k : ℕ) (l : List Val) (at : ℕ) (b : k < n) where
-    opened : from k l at ≡ and_then (start_value (interval_of (get_or ranges k zero_span)) r at) (λ z q. start_values (drop (suc k) (regs_of n ranges)) (values_of k l ++ (z ∷ [])) r q)
+  module _ (k : ℕ) (l : List Val) (at : ℕ) (d : Span) (b : k < length ranges) where
+    opened : values_from k l at ≡ and_then (start_value (interval_of (get_or ranges k d)) r at) (λ z q. start_values (drop (suc k) intervals) (values_of k l ++ (z ∷ [])) r q)
     unfolding start_values
-    opened = rw (drop-cons (regs_of n ranges) k zero_interval (let e = regs-length n ranges few in omega arith), regs-get n ranges k b)
+    opened = rw (drop-cons intervals k zero_interval (omega (arith, length-map ranges interval_of)), get_or-map interval_of ranges k d zero_interval b)
 
-    pub one-refused : (f : R.Refusal) (p : ℕ) → bad f p ≡ start_value (interval_of (get_or ranges k zero_span)) r at → bad f p ≡ from k l at
+    pub one-refused : {f : R.Refusal} {p : ℕ} → bad f p ≡ start_value (interval_of (get_or ranges k d)) r at → bad f p ≡ values_from k l at
     unfolding and_then
-    one-refused f p e = sym (opened ∙ rw (sym e))
+    one-refused e = sym (opened ∙ rw (sym e))
 
-    pub one_more : (w : Val) (q : ℕ) → k < length l → got w.0 q ≡ start_value (interval_of (get_or ranges k zero_span)) r at → from k l at ≡ from (k + 1) (set l k w) q
+    pub one_more : (w : Val) (q : ℕ) → k < length l → got w.0 q ≡ start_value (interval_of (get_or ranges k d)) r at → values_from k l at ≡ values_from (k + 1) (set l k w) q
     unfolding and_then
     one_more w q h e =
         let next : suc k ≡ k + 1 = omega arith in
         opened ∙ rw (sym e) (
-        ap (λ (zs : List ℤ). start_values (drop (suc k) (regs_of n ranges)) zs r q) (sym (values-more k l w h))
-        ∙ ap (λ (i : ℕ). start_values (drop i (regs_of n ranges)) (values_of (k + 1) (set l k w)) r q) next)
+        ap (λ (zs : List ℤ). start_values (drop (suc k) intervals) zs r q) (sym (values-more k l w h))
+        ∙ ap (λ (i : ℕ). start_values (drop i intervals) (values_of (k + 1) (set l k w)) r q) next)
+
+-- ---- the spans of so many registers or variables
+
+pub part-is : (n : ℕ) (l : List Span) (is : List Interval) → n ≡ length is → regs_of (length is) l ≡ is → map interval_of (take n l) ≡ is
+unfolding regs_of
+part-is n l is q e = sym (take-map interval_of n l) ∙ ap (λ (m : ℕ). take m (map interval_of l)) q ∙ e
+
+pub part-long : (ranges : List Span) (is : List Interval) → map interval_of ranges ≡ is → length ranges ≡ length is
+part-long ranges is e = sym (length-map ranges interval_of) ∙ ap length e
+
+module _ (s : Sheet) (ready : IsReady s) (first : State) (w : StartsFrom (program_of s) first) where
+  -- of the variables
+  pub vars-are : map interval_of (take s.variables first.vars) ≡ (program_of s).vars
+  vars-are = part-is s.variables first.vars (program_of s).vars ready.counted w.vars
+
+  -- of thread t, where the code counts n registers
+  module _ (t : ℕ) (there : t < length (program_of s).threads) (n : ℕ) (q : n ≡ (get_or s.plan.entries t no_entry).registers) where
+    registers : OfProgram (program_of s) t (get_or s.plan.entries t no_entry).registers
+    registers = of-program s.bytes.now (program_of s) s.plan s.places.now ready.planned t there
+
+    pub regs-few : n ≤ most_registers
+    regs-few = let f = registers.regs_few in omega arith
+
+    pub regs-are : map interval_of (take n (thread_at first t).regs) ≡ (thread_in (program_of s) t).regs
+    regs-are = part-is n (thread_at first t).regs (thread_in (program_of s) t).regs (q ∙ registers.registers) (w.regs t there)
+
+    pub regs-short : length (take n (thread_at first t).regs) ≤ most_registers
+    regs-short = let f = regs-few in omega (arith, part-long _ _ regs-are, q, registers.registers)
 
 -- ---- threads one behind the other
 
@@ -155,42 +134,26 @@ module _ (g : Program) (r : Bytes) where
       let past : length ns ≤ t = omega arith in
       rw (drop_of_length-le g.threads h, take_all t ns past)
 
-  module _ (t : ℕ) (l : List RunThread) (at : ℕ) (b : t < length g.threads) (ranges : List Span) (e : regs_of (length (thread_in g t).regs) ranges ≡ (thread_in g t).regs) where
-    abbrev n : ℕ
-    n = length (thread_in g t).regs
-
-    opened-thread : threads_from t l at ≡ and_then (start_values (regs_of n ranges) [] r at) (λ zs q. start_threads (drop (suc t) g.threads) (threads_of (take t ns) l ++ (at_start zs ∷ [])) r q)
+  module _ (t : ℕ) (l : List RunThread) (at : ℕ) (b : t < length g.threads) (ranges : List Span) (e : map interval_of ranges ≡ (thread_in g t).regs) where
+    opened-thread : threads_from t l at ≡ and_then (start_values (map interval_of ranges) [] r at) (λ zs q. start_threads (drop (suc t) g.threads) (threads_of (take t ns) l ++ (at_start zs ∷ [])) r q)
     unfolding start_threads
     opened-thread = rw (drop-cons g.threads t no_thread b, e)
 
-    pub thread-refused : (f : R.Refusal) (q : ℕ) → bad f q ≡ start_values (regs_of n ranges) [] r at → bad f q ≡ threads_from t l at
+    pub thread-refused : {f : R.Refusal} {q : ℕ} → bad f q ≡ start_values (map interval_of ranges) [] r at → bad f q ≡ threads_from t l at
     unfolding and_then
-    thread-refused f q k = sym (opened-thread ∙ rw (sym k))
+    thread-refused k = sym (opened-thread ∙ rw (sym k))
 
-    pub thread-more : (vs : List Val) (q : ℕ) → t < length l → got (values_of n vs) q ≡ start_values (regs_of n ranges) [] r at
+    pub thread-more : (vs : List Val) (q : ℕ) → t < length l → got (values_of (length ranges) vs) q ≡ start_values (map interval_of ranges) [] r at
         → threads_from t l at ≡ threads_from (t + 1) (set l t (record { at = 0; clock = record { 0 = 0 }; regs = vs })) q
     unfolding and_then
     thread-more vs q h k =
         let next : suc t ≡ t + 1 = omega arith in
         let th : RunThread = record { at = 0; clock = record { 0 = 0 }; regs = vs } in
-        let s : threads_of (take t ns) l ++ (at_start (values_of n vs) ∷ []) ≡ threads_of (take (suc t) ns) (set l t th) =
-        ap (λ (m : ℕ). threads_of (take t ns) l ++ (at_start (values_of m vs) ∷ [])) (sym (sizes-regs g t)) ∙ sym (threads_more ns l t th (let z = sizes-threads g in omega arith) h) in
+        let s : threads_of (take t ns) l ++ (at_start (values_of (length ranges) vs) ∷ []) ≡ threads_of (take (suc t) ns) (set l t th) =
+        ap (λ (m : ℕ). threads_of (take t ns) l ++ (at_start (values_of m vs) ∷ [])) (part-long ranges (thread_in g t).regs e ∙ sym (sizes-regs g t)) ∙ sym (threads_more ns l t th (let z = sizes-threads g in omega arith) h) in
         opened-thread ∙ rw (sym k) (
         ap (λ (xs : List Run.RunThread). start_threads (drop (suc t) g.threads) xs r q) s
         ∙ ap (λ (i : ℕ). threads_from i (set l t th) q) next)
-
--- ---- both
-
-pub joined-passed : (z : Sizes) (k : Check) (zs : List ℤ) (xs : List Run.RunThread) (p q : ℕ) (x : F.Replay)
-    → x ≡ after 0 (record { threads = xs; vars = zs; owners = owners_of z.locks (replicate most_locks 0) })
-    → placed q (unless_fault k x) ≡ started_with z (got zs p) (placed q (unless_fault k xs))
-unfolding and_then
-joined-passed z Passed zs xs p q x e = ap (λ (y : F.Replay). got y q) e
-joined-passed z (Fault f) zs xs p q x e = refl
-
-pub joined-fault : (z : Sizes) (f : R.Refusal) (p : ℕ) (xs : Got (List Run.RunThread)) → bad f p ≡ started_with z (bad f p) xs
-unfolding and_then
-joined-fault z f p xs = refl
 
 none_owned : (n m : ℕ) → n ≤ m → owners_of n (replicate m 0) ≡ replicate n none
 unfolding owners_of
@@ -198,10 +161,27 @@ none_owned zero m h = refl
 none_owned (suc n) zero h = absurd (not-suc-le-zero h)
 none_owned (suc n) (suc m) h = ap (λ (r : List Owner). none ∷ r) (none_owned n m (le_of_suc-le-suc h))
 
--- starting values, then threads, are the rules' start
-pub start_is : (g : Program) (r : Bytes) (few : g.locks ≤ most_locks) (k : Check) (vs : List ℤ) (p : ℕ) (xs : Got (List Run.RunThread))
-    → placed p (unless_fault k vs) ≡ start_values g.vars [] r 0 → xs ≡ start_threads g.threads [] r p
-    → started_with (sizes_of g) (placed p (unless_fault k vs)) xs ≡ start_replay g r
-unfolding start_replay and_then sizes_of
-start_is g r few Passed vs p xs e h = rw (sym e, sym h, none_owned g.locks most_locks few)
-start_is g r few (Fault f) vs p xs e h = rw (sym e)
+-- ---- both
+
+module _ (s : Sheet) (ready : IsReady s) (first : State) (w : StartsFrom (program_of s) first) (r : Bytes) where
+  abbrev ranges : List Span
+  ranges = take s.variables first.vars
+
+  same : start_values (map interval_of ranges) [] r 0 ≡ start_values (program_of s).vars [] r 0
+  same = ap (λ (is : List Interval). start_values is [] r 0) (vars-are s ready first w)
+
+  pub vars-refused : {f : R.Refusal} {p : ℕ} → bad f p ≡ start_values (map interval_of ranges) [] r 0 → bad f p ≡ start_replay (program_of s) r
+  unfolding start_replay and_then
+  vars-refused e = rw (sym (e ∙ same))
+
+  module _ (vs : List Val) (at : ℕ) (e : got (values_of (length ranges) vs) at ≡ start_values (map interval_of ranges) [] r 0) where
+    pub threads-refused : {f : R.Refusal} {p : ℕ} → bad f p ≡ start_threads (program_of s).threads [] r at → bad f p ≡ start_replay (program_of s) r
+    unfolding start_replay and_then
+    threads-refused h = rw (sym (e ∙ same), sym h)
+
+    pub started : (ts : List RunThread) (q : ℕ) → got (threads_of (sizes_in s).regs ts) q ≡ start_threads (program_of s).threads [] r at
+        → got (replay_of (sizes_in s) (record { threads = ts; vars = vs; owners = replicate most_locks 0; tick = record { 0 = 0 } })) q ≡ start_replay (program_of s) r
+    unfolding start_replay and_then state_of sizes_of
+    started ts q h =
+        let n : length ranges ≡ length (program_of s).vars = part-long ranges (program_of s).vars (vars-are s ready first w) in
+        rw (sym (e ∙ same), sym h, n, none_owned (program_of s).locks most_locks ready.planned.facts.locks_few)

@@ -1,10 +1,12 @@
 -- An event of a record is one of the rule for runs, and its effect is the rule's. Assumes nothing.
-use Rattle.std.proofs.Common.{◌≡◌, ℕ, ◌+◌, ◌-◌, ◌%◌, ◌<◌, ◌≤◌, Bool, true, false, not, ◌&&◌, ◌||◌, T, leb, length, get_or, sym, refl, ap, ◌∙◌, subst, arith, le→leb, leb→le, le-ltb, lt-ltb}
-use borrow.Author.Tests.{lt-leb}
+use Rattle.std.specs.Prelude.{Result}
+use Rattle.std.proofs.Common.{◌≡◌, ℕ, ◌+◌, ◌<◌, ◌≤◌, Bool, true, false, not, ◌&&◌, ◌||◌, T, leb, length, get_or, sym, refl, ap, ◌∙◌, arith, le→leb, leb→le, le-ltb, lt-ltb}
 use Rattle.rules.specs.Base.{all_below}
 use Rattle.rules.specs.Constants.{most_threads}
-use Rattle.rules.specs.Refusal.{Result, value, fault, on_value, not_run, no_such_name}
-use Rattle.rules.specs.Program.{Program, is_halt}
+use Rattle.rules.specs.Refusal as Ref
+use Rattle.rules.specs.Refusal.{value, fault, on_value, not_run, no_such_name}
+use Rattle.refusal.specs.declared.Refusal.{Refusal}
+use Rattle.rules.specs.Program.{Statement, Program, is_halt}
 use Rattle.rules.specs.Run as R
 use Rattle.rules.specs.Run.{RunThread, RunState, no_run_thread, statement_of, live, is_event, outcome, step}
 use Rattle.rules.specs.Format.{Bytes}
@@ -12,7 +14,8 @@ use Rattle.event.specs.Fetch.{names_of, Fetches}
 use Rattle.event.specs.declared.fetch.Fetched.{Fetched}
 use Rattle.recorded.specs.Follow as F
 use Rattle.recorded.specs.Follow.{gap, tick_after, replayed}
-use Rattle.rules.proofs.Base.{and_left, and_right, and_both, or_elim, or-intro, all-below-elim, all-below-intro, below_suc, same_test}
+use Rattle.rules.proofs.Base.{and_left, and_right, and_both, or_elim, or-intro, all-below-elim, all-below-intro, same_test}
+use Rattle.rules.proofs.IfAt.{is_true}
 use Rattle.rules.proofs.Event.{event-ends, ends-event}
 use Rattle.field.specs.Decoded.{halts}
 use Rattle.field.proofs.Halts.{halts-same}
@@ -21,20 +24,10 @@ use Rattle.state.specs.Shape.{sizes_of}
 use Rattle.state.proofs.Shape.{sizes-threads}
 use Rattle.record.specs.Replay.{thread_at, thread_of, state_of, replayed_of}
 use Rattle.record.specs.Act.{at_tick, Acts}
-use Rattle.expression.specs.declared.parts.Check.{Check}
-use Rattle.expression.specs.declared.parts.Check.TheVariants.{Passed, Fault}
-use Rattle.record.specs.Step.{allows, is_due, allows_at, due_at, Kept}
+use Rattle.record.specs.Step.{allows, is_due, allows_at, due_at}
 use Rattle.record.specs.declared.replay.Replay.{Replay}
-use Rattle.record.specs.declared.replay.Replayed.{Replayed}
 use Rattle.record.specs.declared.act.Event.{Event}
 use Rattle.record.proofs.replay.Laws.{threads-get}
-
--- ---- the tick
-
--- what `std::num::wrapping_sub_u16(after, before)` promises of its result is the gap, and nothing else
-pub gap-only : (before after d : ℕ) → before < 65536 → d < 65536 → (d + before) % 65536 ≡ after → d ≡ gap before after
-unfolding gap
-gap-only before after d h k e = omega arith
 
 -- ---- when an event may end
 
@@ -43,6 +36,7 @@ module _ (g : Program) (s : RunState) (t e : ℕ) where
   n = length g.threads
 
   pub event-is : t < n → is_event g s t e ≡ (due_at g s e t && all_below n (allows_at g s e))
+  unfolding allows_at
   event-is there = same_test (is_event g s t e) (due_at g s e t && all_below n (allows_at g s e)) forth back
     where
       forth : T (is_event g s t e) → T (due_at g s e t && all_below n (allows_at g s e))
@@ -74,7 +68,14 @@ module _ (g : Program) (s : RunState) (t e : ℕ) where
   unfolding step replayed
   not-event q = rw q
 
-tick-outcome : (e : ℕ) (y : Result RunState) → at_tick e y ≡ replayed e (outcome y)
+module _ (g : Program) (s : RunState) (t e : ℕ) (there : t < length g.threads) where
+  pub not-due : due_at g s e t ≡ false → fault not_run ≡ replayed e (step g s t e)
+  not-due d = not-event g s t e (event-is g s t e there ∙ rw d)
+
+  pub not-allowed : due_at g s e t ≡ true → all_below (length g.threads) (allows_at g s e) ≡ false → fault not_run ≡ replayed e (step g s t e)
+  not-allowed d a = not-event g s t e (event-is g s t e there ∙ rw (d, a))
+
+tick-outcome : (e : ℕ) (y : Ref.Result RunState) → at_tick e y ≡ replayed e (outcome y)
 unfolding on_value outcome replayed
 tick-outcome e (value s) = refl
 tick-outcome e (fault r) = refl
@@ -114,69 +115,49 @@ module _ (s : Bytes) (x : Replay) (four : length x.threads ≡ most_threads) (fe
       due_is e = rw (thread_is, statement-is, halts-is, w.least)
 
       pub allows-is : (e : ℕ) → allows (thread_at x u).clock.0 (halts f.action) f.greatest.0 e ≡ allows_at g st e u
-      unfolding live
+      unfolding live allows_at
       allows-is e = rw (thread_is, statement-is, halts-is, w.greatest, sym (not_not (is_halt (statement_in g u (thread_at x u).at).action)))
 
       pub halted-is : halts f.action ≡ not (live g st u)
       unfolding live
       halted-is = rw (halts-is, statement-is, sym (not_not (is_halt (statement_in g u (thread_at x u).at).action)))
 
-      pub live_is : (e : ℕ) → is_due (thread_at x u).clock.0 (halts f.action) f.least.0 e ≡ true → is_halt (statement_in g u (thread_at x u).at).action ≡ false
+      live_is : (e : ℕ) → is_due (thread_at x u).clock.0 (halts f.action) f.least.0 e ≡ true → is_halt (statement_in g u (thread_at x u).at).action ≡ false
       live_is e d = sym halts-is ∙ by-due (halts f.action) (leb ((thread_at x u).clock.0 + f.least.0) e) d
 
-      pub an-event : (r : Replayed) (v : Event) → v.thread ≡ u → v.registers ≡ get_or (sizes_of g).regs u 0
-          → due_at g st v.tick.0 u ≡ true → all_below (length g.threads) (allows_at g st v.tick.0) ≡ true
-          → Acts (sizes_of g) x v (statement_in g u (thread_at x u).at).action r
+      module _ (e : ℕ) where
+        pub too_early : false ≡ is_due (thread_at x u).clock.0 (halts f.action) f.least.0 e → fault not_run ≡ replayed e (step g st u e)
+        too_early d = not-due g st u e b (sym (d ∙ due_is e))
+
+        pub held_back : true ≡ is_due (thread_at x u).clock.0 (halts f.action) f.least.0 e → false ≡ all_below (length g.threads) (allows_at g st e)
+            → fault not_run ≡ replayed e (step g st u e)
+        held_back d a = not-allowed g st u e b (sym (d ∙ due_is e)) (sym a)
+
+      pub an-event : (v : Event) → v.thread ≡ u → v.registers ≡ get_or (sizes_of g).regs u 0
+          → true ≡ is_due (thread_at x u).clock.0 (halts f.action) f.least.0 v.tick.0 → true ≡ all_below (length g.threads) (allows_at g st v.tick.0)
+          → (r : Result Replay Refusal)
+          → ((y : Statement) → Fetches s (names_of g u) (thread_at x u).at y f → is_halt y.action ≡ false → Acts (sizes_of g) x v y.action r)
           → replayed_of (sizes_of g) r ≡ replayed v.tick.0 (step g st u v.tick.0)
       unfolding step
-      an-event r v q k d a acts =
+      an-event v q k d a r acts =
           let e = v.tick.0 in
-          let i : is_event g st u e ≡ true = event-is g st u e b ∙ rw (d, a) in
-          acts ∙ rw (i, q, k, statement-is, thread_is) (tick-outcome e _)
+          let i : is_event g st u e ≡ true = event-is g st u e b ∙ rw (sym (d ∙ due_is e), sym a) in
+          acts _ w (live_is e (sym d)) ∙ rw (i, q, k, statement-is, thread_is) (tick-outcome e _)
 
 -- ---- all threads
 
-pub all-false : (n : ℕ) (f : ℕ → Bool) (u : ℕ) → u < n → f u ≡ false → false ≡ all_below n f
-all-false n f u h q = same_test false (all_below n f) (λ z. absurd z) (λ z. subst T q (all-below-elim n f z u h))
+told : (b : Bool) → T b → b ≡ true
+told true t = refl
+told false t = absurd t
 
-pub all_true : (n m : ℕ) (f : ℕ → Bool) → n ≤ m → T (all_below m f) → true ≡ all_below n f
-all_true n m f h a = same_test true (all_below n f) (λ _. all-below-intro n f (λ u k. all-below-elim m f a u (omega arith))) (λ _. tt)
-
-pub one_more : (m : ℕ) (f : ℕ → Bool) → T (all_below m f) → f m ≡ true → T (all_below (m + 1) f)
-one_more m f a q = all-below-intro (m + 1) f (λ u k. below_suc {P = λ u. T (f u)} m (subst T (sym q) tt) (all-below-elim m f a) u (omega arith))
-
-pub all_none : (f : ℕ → Bool) → T (all_below 0 f)
-unfolding all_below
-all_none f = tt
-
--- ---- tests on differences, where the clock is at most e
-
-pub less-more : (c e n : ℕ) → c ≤ e → leb (e - c) n ≡ leb e (c + n)
-less-more c e n h = same_test (leb (e - c) n) (leb e (c + n)) (λ t. le→leb e (c + n) (let k = leb→le (e - c) n t in omega arith)) (λ t. le→leb (e - c) n (let k = leb→le e (c + n) t in omega arith))
-
-pub more-less : (c e n : ℕ) → c ≤ e → leb n (e - c) ≡ leb (c + n) e
-more-less c e n h = same_test (leb n (e - c)) (leb (c + n) e) (λ t. le→leb (c + n) e (let k = leb→le n (e - c) t in omega arith)) (λ t. le→leb n (e - c) (let k = leb→le (c + n) e t in omega arith))
-
-pub early : (c e n : ℕ) → e < c → false ≡ leb (c + n) e
-early c e n h = sym (lt-leb (c + n) e (omega arith))
-
--- ---- a state that is kept
-
-pub kept-passed : (k : Check) (x y : Replay) → k ≡ Passed → Kept k x y
-kept-passed k x y q = subst (λ (c : Check). Kept c x y) (sym q) tt
-
-pub kept_same : (k : Check) (x y : Replay) → y ≡ x → Kept k x y
-kept_same Passed x y q = tt
-kept_same (Fault r) x y q = q
+-- a test that holds exactly where it holds of each of the m below n
+pub all-is : (n m : ℕ) (f : ℕ → Bool) (b : Bool) → m ≡ n → (b ≡ true → (u : ℕ) → u < m → f u ≡ true) → (((u : ℕ) → u < m → f u ≡ true) → b ≡ true) → b ≡ all_below n f
+all-is n m f b e h k =
+    same_test b (all_below n f)
+    (λ t. all-below-intro n f (λ u i. is_true (f u) (h (told b t) u (omega arith))))
+    (λ t. is_true b (k (λ u i. told (f u) (all-below-elim n f t u (omega arith)))))
 
 -- ---- an event of a record
-
-module _ (g : Program) (s : RunState) (t e : ℕ) (there : t < length g.threads) where
-  pub not-due : due_at g s e t ≡ false → fault not_run ≡ replayed e (step g s t e)
-  not-due d = not-event g s t e (event-is g s t e there ∙ rw d)
-
-  pub not-allowed : due_at g s e t ≡ true → all_below (length g.threads) (allows_at g s e) ≡ false → fault not_run ≡ replayed e (step g s t e)
-  not-allowed d a = not-event g s t e (event-is g s t e there ∙ rw (d, a))
 
 module _ (g : Program) (x : F.Replay) (t clock : ℕ) where
   pub no_thread_lem : length g.threads ≤ t → fault no_such_name ≡ F.replay g x t clock

@@ -1,14 +1,9 @@
--- What the search leaves of `writing::put_five`.
-use Rattle.rules.specs.Search.{five}
-use Rattle.writing.proofs.Five.{five-written}
+-- What the search leaves of `writing::put_five`: the line of five numbers is a line of numbers.
+use Rattle.rules.specs.Product.{line}
+use Rattle.writing.specs.Out.{line_of}
 use Rattle.writing.proofs.put_five.Goals as goal
 
 pub returns : goal.returns
+unfolding line line_of
 returns c =
-    let a = c.args in
-    five-written (five a.refusal a.place a.steps a.low a.high) _ _ _ _ _ _ _ _ _ _ _ _
-    c.put_number-second.ensures
-    c.put_number-third.ensures
-    c.put_number-fourth.ensures
-    c.put_number-fifth.ensures
-    c.put_number.ensures
+    c.put_line.ensures.writes

@@ -1,29 +1,30 @@
 -- What the search leaves of `convert::head::head_at`.
-use Rattle.convert.proofs.HeadLaws.{head_done}
-use Rattle.convert.proofs.HeadReading.{head_read, read-stop, read-three}
+use Rattle.lines.proofs.Steps.{exits}
+use Rattle.convert.specs.Head.{Heads}
+use Rattle.convert.proofs.HeadLaws.{headed}
+use Rattle.convert.proofs.HeadReading.{limit-stops, budget-stops, label-stops, three-read}
 use Rattle.convert.proofs.head.head_at.Goals as goal
 
-pub returns-in-Stop-clause-heads : goal.returns-in-Stop-clause-heads
-returns-in-Stop-clause-heads c =
-    let arg = c.args in
-    let l = c.then_number_line-l.result in
-    let b = c.then_number_line-b.result in
-    let h = head_read arg.s.now l b c.then_word-w.result c.then_range-e.result c.range_line_end-x.result
-    c.then_number_line-l.ensures.beyond.1 c.then_number_line-b.ensures.beyond.1 c.then_number_line-l.ensures.result_value
-    c.then_number_line-b.ensures.result_value c.then_word-w.ensures.result_value c.then_range-e.ensures.result_value
-    c.range_line_end-x.ensures.result_value in
-    read-stop arg.s.now l b h c.in-Stop.is
+pub returns-in_err-limit-clause-heads : goal.returns-in_err-limit-clause-heads
+returns-in_err-limit-clause-heads c =
+    exits (Heads _ _ _) c.from_residual.ensures.1 (limit-stops c.args.s.now c.in_err-limit.ensures.result_value)
 
-pub returns-in-Took-clause-heads : goal.returns-in-Took-clause-heads
-returns-in-Took-clause-heads c =
-    let arg = c.args in
-    let l = c.then_number_line-l.result in
-    let b = c.then_number_line-b.result in
-    let h = head_read arg.s.now l b c.then_word-w.result c.then_range-e.result c.range_line_end-x.result
-    c.then_number_line-l.ensures.beyond.1 c.then_number_line-b.ensures.beyond.1 c.then_number_line-l.ensures.result_value
-    c.then_number_line-b.ensures.result_value c.then_word-w.ensures.result_value c.then_range-e.ensures.result_value
-    c.range_line_end-x.ensures.result_value in
-    head_done arg.s.now arg.out.now _ l b _ _ _ _ _
-    (read-three arg.s.now l b h c.in-Took.is)
-    c.number_in-limit.ensures c.number_in-budget.ensures c.place_in.ensures c.place_in-in-Took.ensures
-    c.fault_at-start.ensures c.put_fitting-fits.ensures.value c.put_fitting-fits.ensures.out_after
+pub returns-in_err-budget-clause-heads : goal.returns-in_err-budget-clause-heads
+returns-in_err-budget-clause-heads c =
+    exits (Heads _ _ _) c.from_residual-in_err-budget.ensures.1
+    (budget-stops c.args.s.now _ c.in_ok-limit.budget_at c.in_ok-limit.ensures.onward.1 c.in_ok-limit.ensures.result_value
+    c.in_err-budget.ensures.result_value)
+
+pub returns-in_err-label-clause-heads : goal.returns-in_err-label-clause-heads
+returns-in_err-label-clause-heads c =
+    exits (Heads _ _ _) c.from_residual-in_err-label.ensures.1
+    (label-stops c.args.s.now _ c.in_ok-limit.budget_at c.in_ok-limit.ensures.onward.1 c.in_ok-limit.ensures.result_value
+    _ c.in_ok-budget.label_at c.in_ok-budget.ensures.onward.1 c.in_ok-budget.ensures.result_value c.in_err-label.ensures.result_value)
+
+pub returns-clause-heads : goal.returns-clause-heads
+returns-clause-heads c =
+    headed c.args.s.now c.args.out.now _ _ _ _ _ _ _ _
+    (three-read c.args.s.now _ c.in_ok-limit.budget_at c.in_ok-limit.ensures.onward.1 c.in_ok-limit.ensures.result_value
+    _ c.in_ok-budget.label_at c.in_ok-budget.ensures.onward.1 c.in_ok-budget.ensures.result_value c.in_ok-label.label
+    c.in_ok-label.ensures.result_value)
+    c.fault_at.ensures c.put_fitting.ensures.value c.put_fitting.ensures.out_after

@@ -1,24 +1,13 @@
 -- What the search leaves of `convert::whole::is_over`.
+use mathlib.Core.Path.{◌≡◌, sym}
+use denote.Enum.Bare.{same_true}
+use Rattle.std.proofs.Common.{rules}
+use Rattle.lines.specs.contracts.line.Due.{the_type}
+use Rattle.lines.specs.declared.line.Due.TheVariants.{Statement}
 use Rattle.convert.proofs.Laying.{not-over}
-use Rattle.text.specs.Lines.{may_end}
 use Rattle.convert.proofs.whole.is_over.Goals as goal
 
-pub returns-in-Locks : goal.returns-in-Locks
-unfolding may_end
-returns-in-Locks c =
-    rw c.in-Locks.is
-
-pub returns-in-Var : goal.returns-in-Var
-unfolding may_end
-returns-in-Var c =
-    rw c.in-Var.is
-
-pub returns-in-Reg : goal.returns-in-Reg
-unfolding may_end
-returns-in-Reg c =
-    rw c.in-Reg.is
-
-pub returns-in-Statement : goal.returns-in-Statement
-returns-in-Statement c =
-    let arg = c.args in
-    rw c.in-Statement.is (not-over arg.s.now arg.q c.requires)
+pub returns-then-eq : goal.returns-then-eq
+returns-then-eq c =
+    let e : c.args.due ≡ Statement = same_true the_type (search rules) _ _ (sym c.if-eq.ensures) in
+    rw e (not-over c.args.s.now c.args.q c.requires)

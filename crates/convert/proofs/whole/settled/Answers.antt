@@ -1,33 +1,22 @@
 -- What the search leaves of `convert::whole::settled`.
-use Rattle.convert.proofs.Rows.{more, aims-here, aims-past, aims-before}
+use Rattle.std.proofs.Common.{rules}
+use Prim.Native.Nat.{◌≤◌, ◌<◌}
+use Rattle.convert.proofs.Rows.{more, aims-here, aims-kept}
 use Rattle.convert.proofs.whole.settled.Goals as goal
 
-pub returns-then-target-to-clause-so_far : goal.returns-then-target-to-clause-so_far
-returns-then-target-to-clause-so_far c =
-    let arg = c.args in
-    let sm = c.requires.3 in
-    let k₁ = c.closed-put.ensures in
-    let k₂ = c.past-to.ensures in
-    let k₃ = c.past-whole.ensures in
-    λ xs x h es e ln sd. more xs x arg.out.now arg.target arg.w h sm e ln sd k₁.value k₁.out_after k₂ k₃
-    (aims-here xs x arg.out.now arg.target arg.w h sm e es ln k₁.value k₂ c.if-from-target.true c.if-target-to.true)
+pub returns-then-contains-clause-so_far : goal.returns-then-contains-clause-so_far
+returns-then-contains-clause-so_far c =
+    let k = c.closed.ensures in
+    let a : c.args.w.end ≤ c.args.target = search rules in
+    let b : c.args.target < c.past-end.result = search rules in
+    λ xs x h es e ln sd. more xs x c.args.out.now c.args.target c.args.w h c.requires.3 e ln sd k.value k.out_after
+    c.past-end.ensures c.past-whole.ensures
+    (aims-here xs x c.args.out.now c.args.target c.args.w h c.requires.3 e es ln k.value c.past-end.ensures a b)
 
-pub returns-else-target-to-clause-so_far : goal.returns-else-target-to-clause-so_far
-returns-else-target-to-clause-so_far c =
-    let arg = c.args in
-    let sm = c.requires.3 in
-    let k₁ = c.closed-put.ensures in
-    let k₂ = c.past-to.ensures in
-    let k₃ = c.past-whole.ensures in
-    λ xs x h es e ln sd. more xs x arg.out.now arg.target arg.w h sm e ln sd k₁.value k₁.out_after k₂ k₃
-    (aims-past xs x arg.out.now arg.target arg.w h sm e es ln k₁.value k₂ c.if-target-to.false)
-
-pub returns-else-from-target-clause-so_far : goal.returns-else-from-target-clause-so_far
-returns-else-from-target-clause-so_far c =
-    let arg = c.args in
-    let sm = c.requires.3 in
-    let k₁ = c.closed-put.ensures in
-    let k₂ = c.past-to.ensures in
-    let k₃ = c.past-whole.ensures in
-    λ xs x h es e ln sd. more xs x arg.out.now arg.target arg.w h sm e ln sd k₁.value k₁.out_after k₂ k₃
-    (aims-before xs x arg.out.now arg.target arg.w h sm e es ln k₁.value k₂ c.if-from-target.false)
+pub returns-else-contains-clause-so_far : goal.returns-else-contains-clause-so_far
+returns-else-contains-clause-so_far c =
+    let k = c.closed.ensures in
+    let n : c.args.w.end ≤ c.args.target → c.args.target < c.past-end.result → ⊥ = search rules in
+    λ xs x h es e ln sd. more xs x c.args.out.now c.args.target c.args.w h c.requires.3 e ln sd k.value k.out_after
+    c.past-end.ensures c.past-whole.ensures
+    (aims-kept xs x c.args.out.now c.args.target c.args.w h c.requires.3 e es ln k.value c.past-end.ensures n)

@@ -1,32 +1,28 @@
 -- What the search leaves of `event::act::assign`.
-use mathlib.Core.Path.{sym, ap, ◌∙◌}
-use Rattle.state.specs.Cells.{decode}
-use Rattle.state.specs.Access.{thread_at}
-use Rattle.expression.specs.Evaluation.{regs_of}
-use Rattle.rules.specs.Constants.{deepest}
-use Rattle.rules.specs.Expression.{evaluate}
-use Rattle.rules.specs.Format.{read_arith}
-use Rattle.interval.specs.Shape.{result_of}
+use Rattle.std.proofs.Common.{rules, ◌≡◌, Ok, Err}
 use Rattle.expression.proofs.whole.Laws.{value-of-tree}
+use Rattle.state.specs.Access.{thread_at}
+use Rattle.state.specs.Cells.{decode}
 use Rattle.event.proofs.ActLaws.{assign-faults, assigns}
-use mathlib.Core.List.{List}
-use Rattle.interval.specs.declared.Span.{Span}
 use Rattle.event.proofs.act.assign.Goals as goal
 
-pub returns-in-Fault : goal.returns-in-Fault
-returns-in-Fault c =
-    let arg = c.args in
-    λ z a n e. assign-faults z arg.slots arg.work.now arg.height (decode arg.cells.now) arg.v
-    (thread_at (decode arg.cells.now) arg.v.thread) arg.r a c.in-Fault.q
-    (sym (ap result_of c.in-Fault.is) ∙ value-of-tree (regs_of arg.v.registers c.registers_of-regs.result) arg.end
-    (read_arith deepest arg.sheet.now arg.end arg.v.registers arg.at) a c.assigned_value.result e c.assigned_value.ensures ∙ ap
-    (λ (rs : List Span). evaluate a (regs_of arg.v.registers rs)) c.registers_of-regs.ensures)
+pub returns-in_err-value-clause-leaves : goal.returns-in_err-value-clause-leaves
+returns-in_err-value-clause-leaves c =
+    let v = c.args.v in
+    let s = decode c.args.cells.now in
+    let stack = c.args.stack.now in
+    let q = c.in_err-value.field-0.0 in
+    let refused : c.from_residual.result ≡ Err q = search rules in
+    let made = rw c.registers_of-regs.ensures at c.in_err-value.ensures in
+    λ z a n read. rw refused (assign-faults z stack.slots stack.work.now stack.height s v (thread_at s v.thread) c.args.r a q
+    (value-of-tree _ c.args.end _ a (Err q) read made))
 
-pub returns-in-Is : goal.returns-in-Is
-returns-in-Is c =
-    let arg = c.args in
-    λ z a n e. assigns z arg.slots arg.work.now arg.height (decode arg.cells.now) arg.v
-    (thread_at (decode arg.cells.now) arg.v.thread) arg.r a c.write_register-h.new.work c.write_register-h.result c.in-Is.i n
-    (sym (ap result_of c.in-Is.is) ∙ value-of-tree (regs_of arg.v.registers c.registers_of-regs.result) arg.end
-    (read_arith deepest arg.sheet.now arg.end arg.v.registers arg.at) a c.assigned_value.result e c.assigned_value.ensures ∙ ap
-    (λ (rs : List Span). evaluate a (regs_of arg.v.registers rs)) c.registers_of-regs.ensures) (c.write_register-h.ensures z)
+pub returns-clause-leaves : goal.returns-clause-leaves
+returns-clause-leaves c =
+    let v = c.args.v in
+    let s = decode c.args.cells.now in
+    let stack = c.args.stack.now in
+    let i = c.in_ok-value.value in
+    let made = rw c.registers_of-regs.ensures at c.in_ok-value.ensures in
+    λ z a n read. assigns z stack.slots stack.work.now stack.height s v (thread_at s v.thread) c.args.r a
+    _ _ i n (value-of-tree _ c.args.end _ a (Ok i) read made) (c.write_register.ensures.grows z)

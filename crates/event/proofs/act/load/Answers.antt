@@ -1,27 +1,26 @@
 -- What the search leaves of `event::act::load`.
-use mathlib.Core.Path.{refl, sym, ap, ◌∙◌}
-use Prim.Native.Nat.{suc}
-use lib.ListN.{get_or, set}
-use Rattle.state.specs.Cells.{decode}
-use Rattle.state.specs.Access.{thread_at}
-use Rattle.expression.specs.Evaluation.{regs_of}
-use Rattle.event.specs.Act.{moved_by}
+use Rattle.std.proofs.Common.{suc, refl, sym, ap, ◌∙◌, get_or, set}
 use Rattle.rules.specs.Search.{effect}
 use Rattle.rules.specs.Interval.{Interval}
 use Rattle.interval.specs.Shape.{interval_of}
+use Rattle.expression.specs.Evaluation.{regs_of}
+use Rattle.state.specs.Access.{thread_at}
+use Rattle.state.specs.Cells.{decode}
 use Rattle.state.proofs.Shape.{state-var}
+use Rattle.event.specs.Act.{moved_by}
 use Rattle.event.proofs.ActLaws.{pushed-as}
 use Rattle.event.proofs.act.load.Goals as goal
 
-pub returns : goal.returns
+pub returns-clause-leaves : goal.returns-clause-leaves
 unfolding effect
-returns c =
-    let arg = c.args in
-    λ z h. (
-      c.write_register.result,
+returns-clause-leaves c =
+    let v = c.args.v in
+    let s = decode c.args.cells.now in
+    let x = thread_at s v.thread in
+    λ z h.
+    let value = ap interval_of c.variable_of.ensures ∙ sym (state-var z s c.args.k h) in (
+      _,
       refl,
-      pushed-as (ap (λ (i : Interval). moved_by z (decode arg.cells.now) arg.v
-          (suc (thread_at (decode arg.cells.now) arg.v.thread).at)
-          (set (regs_of (get_or z.regs arg.v.thread 0) (thread_at (decode arg.cells.now) arg.v.thread).regs) arg.r i))
-          (ap interval_of c.variable_of-i.ensures ∙ sym (state-var z (decode arg.cells.now) arg.k h))) (c.write_register.ensures z),
+      pushed-as (ap (λ (i : Interval). moved_by z s v (suc x.at) (set (regs_of (get_or z.regs v.thread 0) x.regs) c.args.r i)) value)
+          (c.write_register.ensures.grows z),
     )

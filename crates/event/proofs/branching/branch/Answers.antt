@@ -1,51 +1,32 @@
 -- What the search leaves of `event::branching::branch`.
-use mathlib.Core.Path.{sym, ap, ◌∙◌}
-use native.Mathlib.Omega.{arith}
-use Prim.Native.Nat.{suc}
-use Rattle.state.specs.Cells.{decode}
-use Rattle.state.specs.Access.{thread_at}
-use Rattle.expression.specs.Evaluation.{regs_of}
-use Rattle.rules.specs.Constants.{deepest}
-use Rattle.rules.specs.Expression.{all_parts, narrow_yes, narrow_no}
-use Rattle.rules.specs.Format.{read_condition}
-use Rattle.expression.specs.Parts.{check_of}
+use Rattle.std.proofs.Common.{rules, ◌≡◌, Ok, Err, suc, ap, ◌∙◌}
 use Rattle.expression.specs.Comparison.{narrowed_of}
 use Rattle.expression.proofs.whole.Laws.{check-of-tree, yes-of-tree, no-of-tree}
+use Rattle.state.specs.Access.{thread_at}
+use Rattle.state.specs.Cells.{decode}
 use Rattle.event.proofs.ActLaws.{branch-faults, branches-on}
-use mathlib.Core.List.{List, []}
-use Rattle.interval.specs.declared.Span.{Span}
 use Rattle.event.proofs.branching.branch.Goals as goal
 
-pub way-k-requires : goal.way-k-requires
-way-k-requires c =
-    let a = c.requires.0 in
-    let w = c.way-h.ensures (record { regs = []; vars = 0; locks = 0 }) in
-    record { ticks = a.ticks; room = rw w.same_length a.room; high = omega (arith, w.count) }
+pub returns-in_err-yes-clause-leaves : goal.returns-in_err-yes-clause-leaves
+returns-in_err-yes-clause-leaves c =
+    let v = c.args.v in
+    let s = decode c.args.cells.now in
+    let stack = c.args.stack.now in
+    let q = c.in_err-yes.field-0.0 in
+    let refused : c.from_residual.result ≡ Err q = search rules in
+    let made = rw c.registers_of-regs.ensures at c.in_err-yes.ensures in
+    λ z a n read. rw refused (branch-faults z stack.slots stack.work.now stack.height s v (thread_at s v.thread) c.args.target a q
+    (check-of-tree _ c.args.end v.registers _ a (Err q) read made))
 
-pub returns-in-Fault : goal.returns-in-Fault
-returns-in-Fault c =
-    let arg = c.args in
-    λ z a n e. branch-faults z arg.slots arg.work.now arg.height (decode arg.cells.now) arg.v
-    (thread_at (decode arg.cells.now) arg.v.thread) arg.target a c.in-Fault.q
-    (sym (ap check_of c.in-Fault.is) ∙ check-of-tree (regs_of arg.v.registers c.registers_of-regs.result) arg.end
-    arg.v.registers (read_condition deepest arg.sheet.now arg.end arg.v.registers arg.at) a c.branch_on-b.result e
-    c.branch_on-b.ensures ∙ ap (λ (rs : List Span). all_parts a (regs_of arg.v.registers rs)) c.registers_of-regs.ensures)
-
-pub returns-in-Passed : goal.returns-in-Passed
-returns-in-Passed c =
-    let arg = c.args in
-    λ z a n e. branches-on z arg.slots arg.work.now arg.height (decode arg.cells.now) arg.v
-    (thread_at (decode arg.cells.now) arg.v.thread) arg.target a c.way-h.new.work c.way-k.new.work c.way-h.result c.way-k.result
-    c.next-on.result
-    (λ k. narrowed_of k c.branch_on-b.result.yes) (λ k. narrowed_of k c.branch_on-b.result.no) n
-    (c.next-on.ensures ∙ ap suc c.at_of.ensures)
-    (sym (ap check_of c.in-Passed.is) ∙ check-of-tree (regs_of arg.v.registers c.registers_of-regs.result) arg.end arg.v.registers
-    (read_condition deepest arg.sheet.now arg.end arg.v.registers arg.at) a c.branch_on-b.result e c.branch_on-b.ensures ∙ ap
-    (λ (rs : List Span). all_parts a (regs_of arg.v.registers rs)) c.registers_of-regs.ensures)
-    (yes-of-tree (regs_of arg.v.registers c.registers_of-regs.result) arg.end arg.v.registers
-    (read_condition deepest arg.sheet.now arg.end arg.v.registers arg.at) a c.branch_on-b.result e c.branch_on-b.ensures ∙ ap
-    (λ (rs : List Span). narrow_yes a (regs_of arg.v.registers rs)) c.registers_of-regs.ensures)
-    (no-of-tree (regs_of arg.v.registers c.registers_of-regs.result) arg.end arg.v.registers
-    (read_condition deepest arg.sheet.now arg.end arg.v.registers arg.at) a c.branch_on-b.result e c.branch_on-b.ensures ∙ ap
-    (λ (rs : List Span). narrow_no a (regs_of arg.v.registers rs)) c.registers_of-regs.ensures)
-    (c.way-h.ensures z) (c.way-k.ensures z)
+pub returns-clause-leaves : goal.returns-clause-leaves
+returns-clause-leaves c =
+    let v = c.args.v in
+    let s = decode c.args.cells.now in
+    let stack = c.args.stack.now in
+    let b = c.in_ok-yes.field-0 in
+    let made = rw c.registers_of-regs.ensures at c.in_ok-yes.ensures in
+    λ z a n read. branches-on z stack.slots stack.work.now stack.height s v (thread_at s v.thread) c.args.target a
+    _ _ _ _ c.next.result (λ k. narrowed_of k b.yes) (λ k. narrowed_of k b.no) n
+    (c.next.ensures ∙ ap suc c.at_of.ensures) (check-of-tree _ c.args.end v.registers _ a (Ok b) read made)
+    (yes-of-tree _ c.args.end v.registers _ a b read made) (no-of-tree _ c.args.end v.registers _ a b read made)
+    (c.way.ensures.grows z) (rw c.way.ensures.same.1 at (c.way-2.ensures.grows z))

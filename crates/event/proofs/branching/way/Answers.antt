@@ -1,14 +1,21 @@
 -- What the search leaves of `event::branching::way`.
+use Rattle.std.proofs.Common.{rules, ◌≡◌}
 use Rattle.rules.specs.Search.{unless_empty}
+use Rattle.state.specs.Cells.{decode}
+use Rattle.state.specs.Move.{moved_to}
 use Rattle.event.proofs.PushLaws.{none-pushed}
+use Rattle.event.proofs.ActLaws.{moved-pushed}
 use Rattle.event.proofs.branching.way.Goals as goal
 
-pub returns-then-empty : goal.returns-then-empty
+pub returns-in-Some-clause-grows : goal.returns-in-Some-clause-grows
 unfolding unless_empty
-returns-then-empty c =
-    λ z. rw c.if-empty.true (none-pushed c.requires.high)
+returns-in-Some-clause-grows c =
+    let s = decode c.args.cells.now in
+    let regs = c.in-Some.regs in
+    let put = c.push.ensures.pushed in
+    let wrote : decode put.1 ≡ moved_to s c.move_to-m.result regs = search (rules, put.2) in
+    λ z. rw c.in-Some.is (moved-pushed put.1 s c.args.v c.args.at c.move_to-m.ensures (put.3 z) (λ t. regs) wrote)
 
-pub returns : goal.returns
+pub returns-in_default-clause-grows : goal.returns-in_default-clause-grows
 unfolding unless_empty
-returns c =
-    λ z. rw c.if-empty.false (c.push_registers.ensures z)
+returns-in_default-clause-grows c = λ z. rw c.in_default.is (none-pushed c.args.stack.now.high)

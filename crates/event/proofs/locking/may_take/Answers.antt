@@ -3,11 +3,7 @@ use Rattle.event.proofs.ActLaws.{free-may, owned-may}
 use Rattle.event.proofs.locking.may_take.Goals as goal
 
 pub returns-then-o-eq0 : goal.returns-then-o-eq0
-returns-then-o-eq0 c =
-    let arg = c.args in
-    free-may arg.t arg.o c.if-o-eq0.true
+returns-then-o-eq0 c = free-may c.args.t c.args.o c.if-o-eq0.true
 
-pub returns : goal.returns
-returns c =
-    let arg = c.args in
-    rw c.owner.ensures (owned-may arg.t arg.o c.if-o-eq0.false)
+pub returns-else-o-eq0 : goal.returns-else-o-eq0
+returns-else-o-eq0 c = rw c.owner.ensures (owned-may c.args.t c.args.o c.if-o-eq0.false)

@@ -1,21 +1,22 @@
 -- What the search leaves of `event::locking::unlock`.
-use mathlib.Core.Path.{refl, ap, ◌∙◌}
-use Prim.Native.Nat.{ℕ, suc}
-use Rattle.state.specs.Cells.{decode}
-use Rattle.event.proofs.ActLaws.{pushed-as, unlocks}
-use Rattle.rules.specs.Search.{effect}
+use Rattle.std.proofs.Common.{rules, ◌≡◌, ℕ, refl, ap, ◌∙◌}
 use Rattle.rules.specs.Lock.{after_unlock}
+use Rattle.rules.specs.Search.{effect}
+use Rattle.state.specs.Access.{thread_at, with_owner}
+use Rattle.state.specs.Cells.{decode}
+use Rattle.state.specs.Move.{moved_to}
 use Rattle.state.specs.Shape.{owner_of}
+use Rattle.event.proofs.ActLaws.{pushed-as, owner-pushed, unlocks}
 use Rattle.event.proofs.locking.unlock.Goals as goal
 
-pub returns : goal.returns
+pub returns-clause-leaves : goal.returns-clause-leaves
 unfolding effect
-returns c =
-    let arg = c.args in
-    λ z h. (
-      c.push_owner.result,
-      refl,
-      pushed-as (unlocks z (decode arg.cells.now) arg.v arg.l h c.next-on.result c.after_unlock-o.result
-          (c.next-on.ensures ∙ ap suc c.at_of.ensures)
-          (c.after_unlock-o.ensures ∙ ap (λ (o : ℕ). after_unlock arg.v.thread (owner_of o)) c.owner_of.ensures)) (c.push_owner.ensures z),
-    )
+returns-clause-leaves c =
+    let v = c.args.v in
+    let s = decode c.args.cells.now in
+    let m = c.onward-m.result in
+    let o = c.after_unlock-o.result in
+    let put = c.push.ensures.pushed in
+    let wrote : decode put.1 ≡ with_owner (moved_to s m (thread_at s m.thread).regs) c.args.l o = search (rules, put.2) in
+    let owner = c.after_unlock-o.ensures ∙ ap (λ (x : ℕ). after_unlock v.thread (owner_of x)) c.owner_of.ensures in
+    λ z h. (_, refl, pushed-as (unlocks z s v c.args.l h o owner) (owner-pushed put.1 s v _ c.onward-m.ensures (put.3 z) c.args.l o wrote))

@@ -1,33 +1,33 @@
 -- What the search leaves of `field::ranges::read_variables`.
-use Rattle.field.proofs.outcome.Laws.{fails, finds}
+use Rattle.std.specs.Prelude.{[]}
+use Rattle.std.proofs.Common.{refl, arith}
+use Rattle.rules.specs.Format.{read_variables}
+use Rattle.field.proofs.outcome.Laws.{exits, fails, finds}
 use Rattle.field.proofs.Loops.{turn-wrong, turn-done, turn-full, turn-bad, turn_more}
-use Rattle.field.proofs.ranges.Laws.{variables-start, variable-room}
 use Rattle.field.proofs.ranges.read_variables.Goals as goal
 
-pub loop-r-init : goal.loop-r-init
-loop-r-init c =
-    variables-start _ _
+pub loop-end-init : goal.loop-end-init
+unfolding read_variables
+loop-end-init c = record { items = []; count = refl; top = omega arith; rest = refl }
 
-pub returns-in-Wrong : goal.returns-in-Wrong
-returns-in-Wrong c =
-    fails (turn-wrong c.loop-r.invariant c.variable_here-h.ensures c.in-Wrong.is)
+pub returns-in_err-variable_here : goal.returns-in_err-variable_here
+returns-in_err-variable_here c =
+    exits c.from_residual.ensures.1 (fails (turn-wrong c.loop-end.invariant c.in_err-variable_here.ensures))
 
-pub returns-in-Done : goal.returns-in-Done
-returns-in-Done c =
-    finds (turn-done c.loop-r.invariant c.variable_here-h.ensures c.in-Done.is) c.loop-r.invariant.count
+pub returns-in_err-need : goal.returns-in_err-need
+returns-in_err-need c =
+    exits c.from_residual-in_err-need.ensures.1
+    (fails (turn-full c.loop-end.invariant c.in_ok-variable_here.ensures c.if-branch.true c.in_err-need.ensures))
 
-pub returns-then-n-eq-MOST_VARIABLES : goal.returns-then-n-eq-MOST_VARIABLES
-returns-then-n-eq-MOST_VARIABLES c =
-    fails (turn-full c.loop-r.invariant c.variable_here-h.ensures c.in-More.is c.if-n-eq-MOST_VARIABLES.true)
+pub returns-in_err-end : goal.returns-in_err-end
+returns-in_err-end c =
+    exits c.from_residual-in_err-end.ensures.1
+    (fails (turn-bad c.loop-end.invariant c.in_ok-variable_here.ensures c.if-branch.true c.in_ok-need.ensures c.in_err-end.ensures))
 
-pub range_end-x-requires : goal.range_end-x-requires
-range_end-x-requires c =
-    variable-room _ _ c.variable_here-h.ensures c.in-More.is
+pub loop-end-preserved : goal.loop-end-preserved
+loop-end-preserved c =
+    turn_more c.loop-end.invariant c.in_ok-variable_here.ensures c.if-branch.true c.in_ok-need.ensures c.in_ok-end.ensures
 
-pub returns-in-Refused : goal.returns-in-Refused
-returns-in-Refused c =
-    fails (turn-bad c.loop-r.invariant c.variable_here-h.ensures c.in-More.is c.if-n-eq-MOST_VARIABLES.false c.range_end-x.ensures c.in-Refused.is)
-
-pub loop-r-preserved : goal.loop-r-preserved
-loop-r-preserved c =
-    turn_more c.loop-r.invariant c.variable_here-h.ensures c.in-More.is c.if-n-eq-MOST_VARIABLES.false c.range_end-x.ensures c.in-At.is
+pub returns : goal.returns
+returns c =
+    finds (turn-done c.loop-end.invariant c.in_ok-variable_here.ensures c.if-branch.false) c.loop-end.invariant.count

@@ -1,15 +1,35 @@
 -- What the search leaves of `field::ranges::registers_end`.
-use Rattle.field.proofs.ranges.Laws.{registers-refused, registers-again, registers-done}
+use Rattle.std.specs.Prelude.{◌≡◌, ℕ, suc, ◌+◌, ◌-◌, ◌<◌, [], ◌∷◌, ◌++◌, List, Err}
+use Rattle.std.proofs.Common.{ap, sym, ◌∙◌, arith}
+use Rattle.rules.specs.Interval.{Interval}
+use Rattle.rules.specs.Format.{Bytes, Got, and_then, due, read_range, read_registers}
+use Rattle.field.specs.Outcome.{end_of}
+use Rattle.field.proofs.outcome.Laws.{exits, got_of, bad-of, fault-back}
 use Rattle.field.proofs.ranges.registers_end.Goals as goal
 
-pub returns-in_default : goal.returns-in_default
-returns-in_default c =
-    registers-refused c.loop-k.invariant c.loop-k-test.true c.register_end-x.ensures c.in_default.is
+-- one more of those that are due
+turn : (s : Bytes) (n k : ℕ) (rs : List Interval) (p : ℕ) {g : Got Interval} → k < n → due 5 s p (read_range s p) ≡ g
+    → read_registers (n - k) rs s p ≡ and_then g (λ i q. read_registers (n - (k + 1)) (rs ++ i ∷ []) s q)
+unfolding read_registers
+turn s n k rs p h e = let m : n - k ≡ suc (n - (k + 1)) = omega arith in rw (m, e)
 
-pub loop-k-preserved : goal.loop-k-preserved
-loop-k-preserved c =
-    registers-again c.loop-k.invariant c.loop-k-test.true c.register_end-x.ensures c.in-At.is
+pub returns-in_err-end : goal.returns-in_err-end
+unfolding and_then
+returns-in_err-end c =
+    let i = c.loop.invariant in
+    let b = bad-of (due 5 _ _ (read_range _ _)) c.in_err-end.ensures in
+    exits c.from_residual.ensures.1 (sym (ap end_of (i.1 ∙ turn _ _ _ i.0 _ c.loop-test.true b) ∙ ap Err (fault-back _)))
+
+pub loop-preserved : goal.loop-preserved
+unfolding and_then
+loop-preserved c =
+    let i = c.loop.invariant in
+    let w = got_of (due 5 _ _ (read_range _ _)) c.in_ok-end.ensures in
+    (i.0 ++ w.0 ∷ [], i.1 ∙ turn _ _ _ i.0 _ c.loop-test.true w.1)
 
 pub returns : goal.returns
+unfolding read_registers
 returns c =
-    registers-done c.loop-k.invariant c.loop-k-test.false
+    let i = c.loop.invariant in
+    let z : c.args.n - c.loop.counter ≡ 0 = omega arith in
+    sym (ap end_of (i.1 ∙ ap (λ (k : ℕ). read_registers k i.0 c.args.s.now c.loop.end) z))

@@ -1,10 +1,8 @@
--- What each loop of `field::ranges::registers_end` keeps, and what falls.
-use Prim.Native.Nat.{◌-◌}
-use Rattle.field.proofs.ranges.Laws.{RegistersSoFar}
+-- What the loop of `field::ranges::registers_end` keeps: the rules have some registers, and as many are due as the loop has turns left.
+use Rattle.std.specs.Prelude.{◌≡◌, List, [], ◌-◌}
+use Rattle.rules.specs.Interval.{Interval}
+use Rattle.rules.specs.Format.{read_registers}
 use Rattle.field.proofs.ranges.registers_end.Given as goal
 
-abbrev pub invariant-loop-k : goal.invariant-loop-k
-invariant-loop-k l = RegistersSoFar l.s l.n l.at l.k l.p
-
-abbrev pub decreases-loop-k : goal.decreases-loop-k
-decreases-loop-k l = l.n - l.k
+abbrev pub invariant-loop : goal.invariant-loop
+invariant-loop l = (rs : List Interval) × (read_registers l.n [] l.s l.at ≡ read_registers (l.n - l.counter) rs l.s l.end)

@@ -10,4 +10,4 @@ returns-then-end-p c =
 pub returns : goal.returns
 returns c =
     let arg = c.args in
-    constant-prints arg.s.now arg.end arg.p _ _ _ c.if-end-p.false _ _ c.num32_at-n.ensures c.put_value-at.ensures
+    constant-prints arg.s.now arg.end arg.p _ _ _ c.if-end-p.false _ _ c.num32_at.ensures c.put_value.ensures

@@ -10,4 +10,4 @@ returns-then-end-p c =
 pub returns : goal.returns
 returns c =
     let arg = c.args in
-    register-prints arg.s.now arg.end arg.p _ _ _ c.if-end-p.false _ _ _ c.put-behind.ensures c.put_decimal-at.ensures
+    register-prints arg.s.now arg.end arg.p _ _ _ c.if-end-p.false _ _ _ c.put-behind.ensures (rw c.from.ensures at c.put_decimal.ensures)

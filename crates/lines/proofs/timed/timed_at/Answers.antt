@@ -1,37 +1,44 @@
 -- What the search leaves of `lines::timed::timed_at`.
-use Rattle.lines.proofs.TimedLaws.{timed-put, ends-behind}
-use Rattle.lines.proofs.PlaceLaws.{field-onward, step-acted, beyond-acted}
-use Rattle.lines.proofs.FrontLaws.{put-there}
-use Rattle.lines.specs.Writing.{acted_end}
-use Rattle.lines.specs.declared.line.Due.TheVariants as due
-use Rattle.text.specs.Words.{then_read}
-use native.Mathlib.Nat.{le_trans}
+use mathlib.Core.Path.{sym, ◌∙◌}
 use native.Mathlib.Omega.{arith}
+use Rattle.lines.specs.Writing.{Acts, Lines}
+use Rattle.lines.proofs.Steps.{exits}
+use Rattle.lines.proofs.ActionLaws.{and-of, and-not}
+use Rattle.lines.proofs.DispatchLaws.{spaces-twice}
+use Rattle.lines.proofs.TimedLaws.{timed-timeless, timed-stops, timed-endless, timed-put}
 use Rattle.lines.proofs.timed.timed_at.Goals as goal
 
-pub returns : goal.returns
-unfolding then_read
-returns c =
-    let g = c.acted_step.ensures in
-    let k = c.past-from.ensures in
-    let h = c.acted_end-end.ensures in
-    let d = c.acted_code.ensures in
-    let b = c.both-fits.ensures in
-    let i = c.are_small.ensures in
-    let j = c.acted_fits.ensures in
-    let z = step-acted c.then_action-x.result in
-    let p = c.put_timed.ensures in
-    rw (c.field_from.ensures, h, b, i, j) (record {
-      lines = timed-put c.args.s.now c.args.out.now _ _ c.args.q c.args.at c.past-from.result c.then_range-t.result
-          c.then_line_end-e.result c.requires.2 c.then_action-x.auto.out k c.then_range-t.ensures.result_value
-          c.then_action-x.result c.then_action-x.ensures.acts (ends-behind c.args.s.now c.then_line_end-e.result
-          c.then_action-x.result g c.then_line_end-e.ensures.result_value) (put-there _ c.args.at c.then_range-t.result p h d);
-      onward_field = field-onward c.args.s.now c.args.q c.args.at (acted_end c.past-from.result c.then_action-x.result) _
-          due.Statement c.then_line_end-e.result (
-            le_trans c.then_range-t.ensures.onward.0
-                (le_trans c.then_action-x.ensures.onward_acted.0.0 (beyond-acted c.then_action-x.result c.then_line_end-e.result g
-                c.then_line_end-e.ensures.beyond.0)),
-            c.then_line_end-e.ensures.beyond.1,
-          ) (let l = c.requires.1 in let
-          m = c.then_action-x.ensures.onward_acted.1.0 in omega arith) c.then_action-x.ensures.onward_acted.1.1;
-    })
+pub returns-in_err-times-clause-lines : goal.returns-in_err-times-clause-lines
+unfolding Lines
+returns-in_err-times-clause-lines c =
+    exits (Lines _ _ _ _ _) c.from_residual.ensures.1 (timed-timeless _ c.in_err-times.ensures.result_value)
+
+pub action_at-requires : goal.action_at-requires
+action_at-requires c =
+    (c.spaces_end-word.ensures.onward.1, (let e = c.spaces_end-word.ensures.reads in rw e (spaces-twice _)), omega arith, c.requires.2)
+
+pub returns-in_err-x-clause-lines : goal.returns-in_err-x-clause-lines
+unfolding Acts Lines
+returns-in_err-x-clause-lines c =
+    exits (Lines _ _ _ _ _) c.from_residual-in_err-x.ensures.1
+    (timed-stops c.args.s.now c.args.q c.in_ok-times.times c.in_ok-times.ensures.result_value c.spaces_end-word.result
+    c.spaces_end-word.ensures.reads c.in_err-x.ensures.acts)
+
+pub returns-in_err-place-clause-lines : goal.returns-in_err-place-clause-lines
+unfolding Lines
+returns-in_err-place-clause-lines c =
+    exits (Lines _ _ _ _ _) c.from_residual-in_err-place.ensures.1
+    (timed-endless c.args.s.now c.args.q c.in_ok-times.times c.in_ok-times.ensures.result_value _ c.spaces_end-word.ensures.reads _ _ _ _
+    c.in_ok-x.ensures.acts c.in_err-place.ensures.reads)
+
+pub returns-then-is_small-clause-lines : goal.returns-then-is_small-clause-lines
+returns-then-is_small-clause-lines c =
+    timed-put _ _ _ c.in_ok-times.ensures.result_value _ c.spaces_end-word.ensures.reads _ _ _ _ _ c.requires.2 c.action_at.auto.out
+    c.past.ensures _ _ _ _ c.in_ok-x.ensures.acts
+    c.in_ok-place.ensures.reads c.put_timed.ensures (and-of (sym c.is_small.ensures ∙ c.if-is_small.true))
+
+pub returns-else-is_small-clause-lines : goal.returns-else-is_small-clause-lines
+returns-else-is_small-clause-lines c =
+    timed-put _ _ _ c.in_ok-times.ensures.result_value _ c.spaces_end-word.ensures.reads _ _ _ _ _ c.requires.2 c.action_at.auto.out
+    c.past.ensures _ _ _ _ c.in_ok-x.ensures.acts
+    c.in_ok-place.ensures.reads c.put_timed.ensures (c.is_small.ensures ∙ and-not _ (sym c.is_small.ensures ∙ c.if-is_small.false))

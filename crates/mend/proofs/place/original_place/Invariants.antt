@@ -9,8 +9,8 @@ use Rattle.mend.specs.Shape.{last_of}
 use Rattle.mend.proofs.place.original_place.Given as goal
 
 abbrev pub invariant-loop-q : goal.invariant-loop-q
-invariant-loop-q l = (l.at ≤ length l.s) × (length l.s ≤ longest_sheet) × EndsAt l.s l.at (last_of l.wanted l.last) ×
-    (original l.s (mend_from (last_of l.wanted l.last) l.s l.at).changes l.p ≡ original l.s (mended l.s).changes l.place)
+invariant-loop-q l = (l.at ≤ length l.s) × (length l.s ≤ longest_sheet) × EndsAt l.s l.at (last_of l.last) ×
+    (original l.s (mend_from (last_of l.last) l.s l.at).changes l.p ≡ original l.s (mended l.s).changes l.place)
 
 abbrev pub decreases-loop-q : goal.decreases-loop-q
 decreases-loop-q l = length l.s - l.at

@@ -2,13 +2,10 @@
 use Rattle.mend.proofs.writer.Laws.{halt-put, none-put}
 use Rattle.mend.proofs.writer.put_halt.Goals as goal
 
-pub returns-then-is_added : goal.returns-then-is_added
-returns-then-is_added c =
-    let arg = c.args in
-    halt-put arg.s.now arg.at arg.wanted arg.last c.is_added.ensures arg.out.now arg.list.now arg.ends c.if-is_added.true
-    c.put_bytes-bytes.ensures c.put_change-numbers.ensures
+pub returns-in_default : goal.returns-in_default
+returns-in_default c =
+    none-put _ _ _ _ _ cc
 
 pub returns : goal.returns
 returns c =
-    let arg = c.args in
-    none-put arg.s.now arg.at arg.wanted arg.last c.is_added.ensures arg.out.now arg.list.now arg.ends c.if-is_added.false
+    halt-put _ _ _ _ _ (cc) c.put_bytes.ensures c.put_change.ensures

@@ -1,29 +1,14 @@
 -- What the search leaves of `notation::comparisons::begun_at`.
-use native.Mathlib.Nat.{le_refl}
 use Rattle.scan.specs.Writing.{Builds}
-use Rattle.notation.proofs.CompareLaws.{begins-stop, begins-logical, begins-arithmetic}
-use Rattle.scan.proofs.BuildLaws.{builds-as, onward_self, onward-as, onward-more, onward-from}
+use Rattle.scan.proofs.BuildLaws.{builds-as}
+use Rattle.notation.proofs.CompareLaws.{begins_logical, begins-arithmetic}
 use Rattle.notation.proofs.comparisons.begun_at.Goals as goal
 
-pub returns-then-l : goal.returns-then-l
+pub returns-then-first-clause-builds : goal.returns-then-first-clause-builds
 unfolding Builds
-returns-then-l c =
-    let told = c.in-Took.is in
-    let o = onward_self c.args.s.now _ c.requires.0 c.requires.1 c.requires.2 in
-    (λ w g r b. begins-logical _ _ told w _ _ g b c.if-l.true, onward-more o told (le_refl _) (onward-as o told).inside)
+returns-then-first-clause-builds c = λ o g r m. begins_logical _ m c.if-first.true
 
-pub returns-in-Stop : goal.returns-in-Stop
-unfolding Builds
-returns-in-Stop c =
-    let told = c.in-Stop.is in
-    let o = onward_self c.args.s.now _ c.requires.0 c.requires.1 c.requires.2 in
-    (λ w g r b. begins-stop _ _ told w _ _ g b, onward-as o told)
-
-pub returns-else-l : goal.returns-else-l
-returns-else-l c =
-    let told = c.in-Took.is in
-    let o = onward_self c.args.s.now _ c.requires.0 c.requires.1 c.requires.2 in (
-      λ w g r b. let n = begins-arithmetic _ _ told w _ _ g b c.if-l.false r in builds-as _ _ _ _ _ _ _ (c.onward_at.ensures.0 w
-          n.value n.begun) n.is,
-      onward-from _ (onward-as o told).on (le_refl _) c.onward_at.ensures.1,
-    )
+pub returns-else-first-clause-builds : goal.returns-else-first-clause-builds
+returns-else-first-clause-builds c = λ o g r m.
+    let w = begins-arithmetic _ m c.if-first.false r in
+    builds-as _ _ _ _ _ _ _ (c.onward_at.ensures.builds o w.value w.begun) w.is

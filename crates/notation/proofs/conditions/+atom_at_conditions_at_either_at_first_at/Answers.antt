@@ -1,122 +1,91 @@
 -- What the search leaves of these functions, which call one another.
-use mathlib.Core.Path.{refl, sym, ap, ◌∙◌}
-use native.Mathlib.Omega.{arith}
+use Rattle.std.proofs.Common.{◌≡◌, refl, sym, arith, rules, Err}
 use native.Mathlib.Nat.{le_trans, le_refl}
-use Rattle.scan.specs.Writing.{Builds}
 use Rattle.text.specs.Notation.{arithmetic}
-use Rattle.notation.specs.Forms.{arith_form, thing_form, start_at}
-use Rattle.notation.specs.Nots.{nots}
-use Rattle.notation.proofs.ConditionLaws.{first-over, first-deep, first_group, start_is, start-end, either-stop, either-arithmetic, either-logical, atomic-is, always-logical}
-use Rattle.notation.proofs.CloseLaws.{made-logical, made-arithmetic, within-logical}
-use Rattle.notation.proofs.ChainLaws.{chain-start, chain-place, chain-ends, chain-broken, broken-place, chain-stops, stops-place, less-left, chain_more}
-use Rattle.scan.proofs.BuildLaws.{built-stop, built-took, builds-as, builds-within, onward-as, onward-from, onward-more}
+use Rattle.scan.specs.Writing.{Builds}
+use Rattle.scan.proofs.BuildLaws.{made_of, built-stop, builds-as, builds-within, onward-from}
+use Rattle.notation.specs.Forms.{arith_form, thing_form}
+use Rattle.notation.proofs.ConditionLaws.{atom-reads, atom-stops, atom-none, either-arithmetic, either-logical, always-logical}
+use Rattle.notation.proofs.CloseLaws.{made_logical, made_arithmetic, within-logical}
+use Rattle.notation.proofs.ChainLaws.{chain-start, chain-ends, chain-broken, chain-stops, chain_more}
 use Rattle.notation.proofs.conditions.+atom_at_conditions_at_either_at_first_at.Goals as goal
 
-pub atom_at-returns : goal.atom_at-returns
-atom_at-returns t c =
-    let n = c.nots_at-n.ensures in let room = c.nots_at-n.auto.out in let small = c.requires.2 in (
-      builds-as _ _ _ _ _ _ _
-          (c.negated_by.ensures.0 _ _ _ _ _ n.count _ (sym room) (omega arith) n.some_is n.wrote (c.begun_at-y.ensures.0 _ _
-          (sym c.first_at-x.auto.out) c.first_at-x.ensures.0)) (n.reads (start_at c.args.depth) (start-end _) ∙ ap (nots n.count)
-          (start_is _ _)),
-      c.negated_by.ensures.1 _ _ (onward-from _ (le_trans n.on c.first_at-x.ensures.1.on) n.from c.begun_at-y.ensures.1),
-    )
+-- ---- one operand
 
-pub conditions_at-loop-out-init : goal.conditions_at-loop-out-init
-conditions_at-loop-out-init t c =
-    let pre = c.requires in chain-start _ _ _ _ _ _ _ _ _ _ pre.0 pre.1 pre.2 pre.3 refl
-
-pub conditions_at-returns-in-Nothing : goal.conditions_at-returns-in-Nothing
-conditions_at-returns-in-Nothing t c =
-    let i = c.loop-out.invariant in let w = c.insert-all.ensures in (
-      chain-ends i c.conjunction_at-sign.ensures _
-          always-logical c.in-Nothing.is w.0 w.1,
-      chain-place i _ w.1,
-    )
-
-pub conditions_at-returns-in-Broken : goal.conditions_at-returns-in-Broken
-conditions_at-returns-in-Broken t c = (
-  chain-broken c.loop-out.invariant c.conjunction_at-sign.ensures c.in-Broken.is _,
-  broken-place c.loop-out.invariant
-      c.conjunction_at-sign.ensures c.in-Broken.is,
-)
-
-pub conditions_at-returns-in-Stop : goal.conditions_at-returns-in-Stop
-conditions_at-returns-in-Stop t c =
-    let i = c.loop-out.invariant in
-    let g = c.conjunction_at-sign.ensures in
-    let z = c.in-Joined.is in
-    let a = c.atom_at-x.ensures in
-    let d = c.condition_only-y.ensures in
-    let y = c.in-Stop.is in (
-      chain-stops i g z _ (built-stop _ _ _ _ _ _ _ (builds-as _ _ _ _ _ _ _ (d.0 _ _ _ _ a.0) (atomic-is _ _)) y) _,
-      stops-place i g z (onward-as (d.1 _ _ a.1) y),
-    )
-
-pub conditions_at-loop-out-smaller : goal.conditions_at-loop-out-smaller
-conditions_at-loop-out-smaller t c =
-    less-left c.loop-out.invariant c.conjunction_at-sign.ensures c.in-Joined.is (onward-as (c.condition_only-y.ensures.1 _ _
-    c.atom_at-x.ensures.1) c.in-Took.is)
-
-pub conditions_at-loop-out-preserved : goal.conditions_at-loop-out-preserved
-conditions_at-loop-out-preserved t c =
-    let d = c.condition_only-y.ensures in
-    let y = c.in-Took.is in
-    chain_more c.loop-out.invariant c.conjunction_at-sign.ensures c.in-Joined.is c.keep-kept.ensures c.keep-kept.auto.codes
-    c.keep-kept.auto.out (c.atom_at-x.auto.out ∙ c.keep-kept.auto.out) (built-took _ _ _ _ _ _ _ (builds-as _ _ _ _ _ _ _
-    (d.0 _ _ _ _ c.atom_at-x.ensures.0) (atomic-is _ _)) y) (onward-as (d.1 _ _ c.atom_at-x.ensures.1) y) c.both-f.ensures
-
-pub either_at-returns-then-l : goal.either_at-returns-then-l
-either_at-returns-then-l t c =
-    let w = made-logical (built-took _ _ _ _ _ _ _ c.atom_at-x.ensures.0 c.in-Took.is) c.if-l.true in (
-      builds-as _ _ _ _ _ _ _
-          (builds-within within-logical _ _ _ _ _ _ (c.conditions_at.ensures.0 _ w.condition _ (le_refl _)
-          (record { fit_is = w.fit_is; wrote = w.wrote; room = sym c.atom_at-x.auto.out }))) (either-logical _ _ w.is),
-      onward-from _ (onward-as c.atom_at-x.ensures.1 c.in-Took.is).on (le_refl _) c.conditions_at.ensures.1,
-    )
-
-pub either_at-returns-in-Stop : goal.either_at-returns-in-Stop
+pub atom_at-returns-in_err-first-clause-builds : goal.atom_at-returns-in_err-first-clause-builds
 unfolding Builds
-either_at-returns-in-Stop t c =
-    (either-stop _ _ (built-stop _ _ _ _ _ _ _ c.atom_at-x.ensures.0 c.in-Stop.is), onward-as c.atom_at-x.ensures.1 c.in-Stop.is)
+atom_at-returns-in_err-first-clause-builds t c =
+    let z : c.from_residual.result ≡ Err c.in_err-first.field-0.0 = search rules in
+    rw z (atom-none c.args.depth c.nots_at-nots.ensures c.in_err-first.ensures.builds)
 
-pub either_at-returns-else-l : goal.either_at-returns-else-l
+pub atom_at-returns-in_err-operand-clause-builds : goal.atom_at-returns-in_err-operand-clause-builds
+unfolding Builds
+atom_at-returns-in_err-operand-clause-builds t c =
+    let z : c.from_residual-in_err-operand.result ≡ Err c.in_err-operand.field-0.0 = search rules in
+    rw z (atom-stops c.args.depth c.nots_at-nots.ensures
+    (c.in_err-operand.ensures.builds _ _ (sym c.first_at.auto.out) c.in_ok-first.ensures.builds))
+
+pub atom_at-returns-clause-builds : goal.atom_at-returns-clause-builds
+atom_at-returns-clause-builds t c =
+    let n = c.nots_at-nots.ensures in
+    let room = c.nots_at-nots.auto.out in
+    let small = c.requires.2 in
+    builds-as _ _ _ _ _ _ _
+    (c.negated_by.ensures.negates _ _ _ _ _ n.count _ (sym room) (omega arith) n.some_is n.wrote
+    (made_of (c.in_ok-operand.ensures.builds _ _ (sym c.first_at.auto.out) (made_of c.in_ok-first.ensures.builds))))
+    (atom-reads c.args.depth n)
+
+pub atom_at-returns-clause-onward : goal.atom_at-returns-clause-onward
+atom_at-returns-clause-onward t c =
+    let n = c.nots_at-nots.ensures in
+    c.negated_by.ensures.onward _ _ (onward-from _ (le_trans n.on c.in_ok-first.ensures.onward.on) n.from c.in_ok-operand.ensures.onward)
+
+-- ---- operands of `&&`
+
+pub conditions_at-loop-code-init : goal.conditions_at-loop-code-init
+conditions_at-loop-code-init t c = let pre = c.requires in rw c.none-waiting.ensures (chain-start _ _ _ _ _ _ _ pre.0 pre.1 pre.2 pre.3)
+
+pub conditions_at-returns-in_err-code-clause-builds : goal.conditions_at-returns-in_err-code-clause-builds
+conditions_at-returns-in_err-code-clause-builds t c =
+    let z : c.from_residual.result ≡ Err c.in_err-code.field-0.0 = search rules in
+    rw z (chain-broken c.loop-code.invariant c.in_err-code.ensures _)
+
+pub conditions_at-returns-in_err-next-clause-builds : goal.conditions_at-returns-in_err-next-clause-builds
+conditions_at-returns-in_err-next-clause-builds t c =
+    let z : c.from_residual-in_err-next.result ≡ Err c.in_err-next.field-0.0 = search rules in
+    rw z (chain-stops c.loop-code.invariant (rw c.in-Some.is at c.in_ok-code.ensures) _ (built-stop _ _ _ _ _ _ _ c.in_err-next.ensures.builds refl) _)
+
+pub conditions_at-loop-code-preserved-then-all : goal.conditions_at-loop-code-preserved-then-all
+conditions_at-loop-code-preserved-then-all t c =
+    chain_more c.loop-code.invariant (rw c.in-Some.is at c.in_ok-code.ensures) c.keep-from.ensures c.keep-from.auto.out c.operand_at.auto.out
+    c.in_ok-next.ensures.builds c.in_ok-next.ensures.onward (search rules)
+
+pub conditions_at-loop-code-preserved : goal.conditions_at-loop-code-preserved
+conditions_at-loop-code-preserved t c =
+    chain_more c.loop-code.invariant (rw c.in-Some.is at c.in_ok-code.ensures) c.keep-from.ensures c.keep-from.auto.out c.operand_at.auto.out
+    c.in_ok-next.ensures.builds c.in_ok-next.ensures.onward (search rules)
+
+pub conditions_at-returns-clause-builds : goal.conditions_at-returns-clause-builds
+conditions_at-returns-clause-builds t c =
+    chain-ends c.loop-code.invariant _ always-logical (rw c.in_default.is at c.in_ok-code.ensures) c.insert-end.ensures.inserts c.insert-end.ensures.ends
+
+-- ---- arithmetic alone, or operands of `&&`
+
+pub either_at-returns-then-first-clause-builds : goal.either_at-returns-then-first-clause-builds
+either_at-returns-then-first-clause-builds t c =
+    let w = made_logical (made_of c.in_ok-first.ensures.builds) c.if-first.true in
+    builds-as _ _ _ _ _ _ _
+    (builds-within within-logical _ _ _ _ _ _ (c.conditions_at.ensures.builds _ w.condition _ (le_refl _)
+    (record { fit_is = w.fit_is; wrote = w.wrote; room = sym c.atom_at.auto.out }))) (either-logical _ _ w.is)
+
+pub either_at-returns-else-first-clause-builds : goal.either_at-returns-else-first-clause-builds
 unfolding Builds thing_form arith_form
-either_at-returns-else-l t c =
-    let w = made-arithmetic (built-took _ _ _ _ _ _ _ c.atom_at-x.ensures.0 c.in-Took.is) c.if-l.false
-    in (
-      record {
-        thing = arithmetic w.value;
-        is = either-arithmetic _ _ w.is;
-        kind = refl;
-        fit_is = w.fit_is;
-        wrote
-            = w.wrote;
-      },
-      onward-more c.atom_at-x.ensures.1 c.in-Took.is (le_refl _) (onward-as c.atom_at-x.ensures.1 c.in-Took.is).inside,
-    )
+either_at-returns-else-first-clause-builds t c =
+    let w = made_arithmetic c.in_ok-first.ensures.builds c.if-first.false in
+    record { thing = arithmetic w.value; is = either-arithmetic _ _ w.is; kind = c.if-first.false; fit_is = w.fit_is; wrote = w.wrote }
 
-pub first_at-returns-then-s-p : goal.first_at-returns-then-s-p
-unfolding Builds
-first_at-returns-then-s-p t c =
-    (first-over _ _ _ c.if-s-p.true, record { on = le_refl _; inside = c.requires.0; from = le_refl _; top = c.requires.1 })
+-- ---- the first operand
 
-pub first_at-returns-then-depth-eq0 : goal.first_at-returns-then-depth-eq0
-unfolding Builds
-first_at-returns-then-depth-eq0 t c = (
-  first-deep _ _ _ c.if-s-p.false c.if-s-p-eq40.true c.if-depth-eq0.true,
-  record {
-    on = le_refl _;
-    inside = c.requires.0;
-    from = le_refl _;
-    top = c.requires.1;
-  },
-)
-
-pub first_at-returns-then-s-p-eq40 : goal.first_at-returns-then-s-p-eq40
-first_at-returns-then-s-p-eq40 t c = (
-  builds-as _ _ _ _ _ _ _ (c.closed_at.ensures.1 _ _ _ _ c.either_at-x.ensures.0) (first_group _ _ _ c.if-s-p.false
-      c.if-s-p-eq40.true c.if-depth-eq0.false),
-  onward-from _ (omega arith) (le_refl _) (c.closed_at.ensures.2 _ _
-      c.either_at-x.ensures.1),
-)
+pub first_at-returns-in_ok-inside-in-Some-eq40-2-clause-onward : goal.first_at-returns-in_ok-inside-in-Some-eq40-2-clause-onward
+first_at-returns-in_ok-inside-in-Some-eq40-2-clause-onward t c =
+    onward-from _ (omega arith) (le_refl _) (c.closed_at.ensures.onward _ _ c.in_ok-inside-in-Some-eq40-2.ensures.onward)

@@ -1,21 +1,18 @@
 -- What the search leaves of `notation::conditions::nots_at`.
-use Rattle.notation.proofs.NotLaws.{nots-start, nots-over, nots-other, nots-more}
+use Rattle.scan.proofs.WordLaws.{byte-same, byte-other}
+use Rattle.notation.proofs.NotLaws.{nots-start, nots-end, nots-more}
 use Rattle.notation.proofs.conditions.nots_at.Goals as goal
 
-pub loop-p-init : goal.loop-p-init
-loop-p-init c =
-    nots-start _ _ _ _ c.requires.0 c.requires.1 c.requires.2
+pub loop-out-init : goal.loop-out-init
+loop-out-init c =
+    let on = c.spaces_end.ensures.onward in
+    nots-start _ _ _ _ _ c.spaces_end.ensures.reads on.0 on.1 c.requires.1 c.requires.2
 
-pub returns-then-s-t : goal.returns-then-s-t
-returns-then-s-t c =
-    nots-over _ c.loop-p.invariant c.spaces_end-t.ensures.0 c.spaces_end-t.ensures.1.0 c.spaces_end-t.ensures.1.1 c.if-s-t.true
+pub loop-out-preserved : goal.loop-out-preserved
+loop-out-preserved c =
+    let m = byte-same _ _ _ c.get.result c.get.ensures.lookup.3 c.loop-out-test.ensures in
+    let on = c.spaces_end-in-loop-out.ensures.onward in
+    nots-more c.loop-out.invariant _ m.0 m.1 c.put.ensures c.put.auto.out c.past.ensures c.spaces_end-in-loop-out.ensures.reads on.0 on.1
 
-pub returns-then-s-t-ne33 : goal.returns-then-s-t-ne33
-returns-then-s-t-ne33 c =
-    nots-other _ c.loop-p.invariant c.spaces_end-t.ensures.0 c.spaces_end-t.ensures.1.0 c.spaces_end-t.ensures.1.1
-    c.if-s-t.false c.if-s-t-ne33.true
-
-pub loop-p-preserved : goal.loop-p-preserved
-loop-p-preserved c =
-    nots-more _ c.loop-p.invariant c.spaces_end-t.ensures.0 c.spaces_end-t.ensures.1.0 c.spaces_end-t.ensures.1.1
-    c.if-s-t.false c.if-s-t-ne33.false c.put.ensures c.put.auto.out c.past-e.ensures
+pub returns : goal.returns
+returns c = nots-end c.loop-out.invariant (byte-other _ _ _ c.get.result c.get.ensures.lookup.3 c.loop-out-test.ensures)

@@ -9,4 +9,4 @@ pub returns : goal.returns
 returns c =
     λ n x q. same_text _ _ _ _ _ _ (assign-text c.args.register x)
     (then-writes _ _ _ _ _ _ _ _ c.put_named-first.ensures
-    (then-writes _ _ _ _ _ _ _ _ c.put_bytes-second.ensures (got-prints (print_arith any_arith) _ _ _ _ q (c.print_arith-w.ensures n))))
+    (then-writes _ _ _ _ _ _ _ _ c.put_bytes-second.ensures (got-prints (print_arith any_arith) _ _ _ _ q (c.print_arith.ensures n))))

@@ -6,4 +6,4 @@ pub returns : goal.returns
 returns c =
     let arg = c.args in
     let e = all-repeated 0 arg.text.now _ _ c.put_zeros.ensures in
-    λ i. record { refusal = arg.refusal; place = arg.place; written = 0; text = e i }
+    λ i. record { refusal = c.from.ensures i; place = arg.fault.place; written = 0; text = e i }

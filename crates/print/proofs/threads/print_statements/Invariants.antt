@@ -1,7 +1,6 @@
--- What each loop of `print::threads::print_statements` keeps, and what falls.
+-- What the loop of `print::threads::print_statements` keeps.
 use mathlib.Core.Path.{◌≡◌}
-use Prim.Native.Nat.{◌-◌, ◌≤◌}
-use lib.ListN.{length, drop}
+use lib.ListN.{drop}
 use Rattle.rules.specs.Encoding.{in_row}
 use Rattle.reader.specs.Facts.{program_in, thread_in}
 use Rattle.writing.specs.Out.{out_of, write}
@@ -10,9 +9,5 @@ use Rattle.print.proofs.threads.print_statements.Given as goal
 
 abbrev pub invariant-loop-k : goal.invariant-loop-k
 invariant-loop-k l =
-    (length l.out ≡ length l.initial.out) × (l.k ≤ l.n)
-    × (write (in_row statement_text (thread_in (program_in l.s) l.t).statements) (out_of l.initial.out l.from)
-    ≡ write (in_row statement_text (drop l.k (thread_in (program_in l.s) l.t).statements)) (out_of l.out l.at))
-
-abbrev pub decreases-loop-k : goal.decreases-loop-k
-decreases-loop-k l = l.n - l.k
+    write (in_row statement_text (thread_in (program_in l.s) l.t).statements) (out_of l.initial.out l.from)
+    ≡ write (in_row statement_text (drop l.k (thread_in (program_in l.s) l.t).statements)) (out_of l.out l.at)

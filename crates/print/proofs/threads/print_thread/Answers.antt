@@ -16,11 +16,11 @@ bounds-index-t c =
 pub print_ranges-second-requires : goal.print_ranges-second-requires
 print_ranges-second-requires c =
     let arg = c.args in
-    registers-room arg.s.now arg.index c.requires.0 arg.t c.requires.1
+    rw (c.from-place.ensures, c.from.ensures) (registers-room arg.s.now arg.index c.requires.0 arg.t c.requires.1)
 
 pub returns : goal.returns
 returns c =
     let arg = c.args in
     same_text _ _ _ _ _ _ (thread-whole arg.s.now arg.index c.requires.0 arg.t c.requires.1)
     (then-writes _ _ _ _ _ _ _ _ c.put_bytes-first.ensures
-    (then-writes _ _ _ _ _ _ _ _ c.print_ranges-second.ensures c.print_statements.ensures))
+    (then-writes _ _ _ _ _ _ _ _ (rw (c.from-place.ensures, c.from.ensures) at c.print_ranges-second.ensures) c.print_statements.ensures))

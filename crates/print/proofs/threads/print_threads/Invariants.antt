@@ -1,7 +1,6 @@
--- What each loop of `print::threads::print_threads` keeps, and what falls.
+-- What the loop of `print::threads::print_threads` keeps.
 use mathlib.Core.Path.{◌≡◌}
-use Prim.Native.Nat.{◌-◌, ◌≤◌}
-use lib.ListN.{length, drop}
+use lib.ListN.{drop}
 use Rattle.rules.specs.Encoding.{in_row}
 use Rattle.reader.specs.Facts.{program_in}
 use Rattle.writing.specs.Out.{out_of, write}
@@ -10,9 +9,5 @@ use Rattle.print.proofs.threads.print_threads.Given as goal
 
 abbrev pub invariant-loop-t : goal.invariant-loop-t
 invariant-loop-t l =
-    (length l.out ≡ length l.initial.out) × (l.t ≤ l.n)
-    × (write (in_row thread_text (program_in l.s).threads) (out_of l.initial.out l.from)
-    ≡ write (in_row thread_text (drop l.t (program_in l.s).threads)) (out_of l.out l.at))
-
-abbrev pub decreases-loop-t : goal.decreases-loop-t
-decreases-loop-t l = l.n - l.t
+    write (in_row thread_text (program_in l.s).threads) (out_of l.initial.out l.from)
+    ≡ write (in_row thread_text (drop l.t (program_in l.s).threads)) (out_of l.out l.at)

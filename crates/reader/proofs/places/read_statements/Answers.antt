@@ -1,39 +1,32 @@
 -- What the search leaves of `reader::places::read_statements`.
-use native.Mathlib.Omega.{arith}
-use Rattle.reader.proofs.places.Laws.{statements-start, statements-wrong, statements-done, statements-full, statements-room, statements-bad, statements-more}
+use Rattle.std.proofs.Common.{refl}
+use Rattle.field.proofs.outcome.Laws.{exits}
+use Rattle.field.proofs.Loops.{turn-wrong, turn-done, turn-full, turn-bad}
+use Rattle.reader.proofs.places.Laws.{read-failed, read_found, statements-start, statements_more}
 use Rattle.reader.proofs.places.read_statements.Goals as goal
 
-pub loop-r-init : goal.loop-r-init
-loop-r-init c =
-    statements-start _ _ _ _ _
+pub loop-place-init : goal.loop-place-init
+loop-place-init c = statements-start _ _ _ _
 
-pub returns-in-Wrong : goal.returns-in-Wrong
-returns-in-Wrong c =
-    statements-wrong c.loop-r.invariant c.statement_here-h.ensures _ c.in-Wrong.is
+pub returns-in_err-statement_here : goal.returns-in_err-statement_here
+returns-in_err-statement_here c =
+    read-failed _ _ (exits c.from_residual.ensures.1 refl) (turn-wrong c.loop-place.invariant.turn c.in_err-statement_here.ensures)
 
-pub returns-in-Done : goal.returns-in-Done
-returns-in-Done c =
-    statements-done c.loop-r.invariant c.statement_here-h.ensures c.in-Done.is
+pub returns-in_err-need : goal.returns-in_err-need
+returns-in_err-need c =
+    read-failed _ _ (exits c.from_residual-in_err-need.ensures.1 refl)
+    (turn-full c.loop-place.invariant.turn c.in_ok-statement_here.ensures c.if-branch.true c.in_err-need.ensures)
 
-pub returns-then-n-eq-MOST_STATEMENTS : goal.returns-then-n-eq-MOST_STATEMENTS
-returns-then-n-eq-MOST_STATEMENTS c =
-    statements-full c.loop-r.invariant c.statement_here-h.ensures c.in-More.is c.if-n-eq-MOST_STATEMENTS.true
+pub returns-in_err-end : goal.returns-in_err-end
+returns-in_err-end c =
+    read-failed _ _ (exits c.from_residual-in_err-end.ensures.1 refl)
+    (turn-bad c.loop-place.invariant.turn c.in_ok-statement_here.ensures c.if-branch.true c.in_ok-need.ensures c.in_err-end.ensures.end)
 
-pub statement_end-x-requires : goal.statement_end-x-requires
-statement_end-x-requires c =
-    statements-room c.loop-r.invariant c.statement_here-h.ensures c.in-More.is
+pub loop-place-preserved : goal.loop-place-preserved
+loop-place-preserved c =
+    statements_more c.loop-place.invariant c.in_ok-statement_here.ensures c.if-branch.true c.in_ok-need.ensures c.in_ok-end.ensures.end
 
-pub returns-in-Refused : goal.returns-in-Refused
-returns-in-Refused c =
-    statements-bad c.loop-r.invariant c.statement_here-h.ensures c.in-More.is c.if-n-eq-MOST_STATEMENTS.false c.statement_end-x.ensures
-    _ c.in-Refused.is
-
-pub loop-r-preserved : goal.loop-r-preserved
-loop-r-preserved c =
-    statements-more c.loop-r.invariant c.statement_here-h.ensures c.in-More.is c.if-n-eq-MOST_STATEMENTS.false
-    c.statement_end-x.ensures c.in-At.is
-
-pub overflow_cast-places : goal.overflow_cast-places
-overflow_cast-places c =
-    let h = statements-room c.loop-r.invariant c.statement_here-h.ensures c.in-More.is in
-    let k = c.requires.1 in omega arith
+pub returns : goal.returns
+returns c =
+    let i = c.loop-place.invariant in
+    read_found _ _ (turn-done i.turn c.in_ok-statement_here.ensures c.if-branch.false) i.turn.count i.table i.turn.top

@@ -1,18 +1,15 @@
 -- What the search leaves of `record::act::assign`.
-use Rattle.std.proofs.Common.{sym, ap, ◌∙◌}
-use Rattle.refusal.specs.Shape.{rule_of}
-use Rattle.record.specs.Known.{value_in}
+use Rattle.std.proofs.lemmas.Result.{err_from_is_err_and}
 use Rattle.record.proofs.act.Laws.{assign-faults, assigns}
 use Rattle.record.proofs.act.assign.Goals as goal
 
-pub returns-in-Fault : goal.returns-in-Fault
-returns-in-Fault c =
+pub returns-in_err-k : goal.returns-in_err-k
+returns-in_err-k c =
     let arg = c.args in
-    λ z a h e. assign-faults z arg.x arg.v h c.failed.result (rule_of c.in-Fault.q) (c.failed.ensures.0 z) arg.r a
-    (sym (ap value_in c.in-Fault.is) ∙ c.value_of.ensures a e)
+    let p = err_from_is_err_and c.from_residual.result c.from_residual.ensures.1 in
+    λ z a h e. rw (p.1, p.2) (assign-faults z arg.x arg.v h _ arg.r a (c.in_err-k.ensures a e))
 
-pub returns-in-Is : goal.returns-in-Is
-returns-in-Is c =
+pub returns : goal.returns
+returns c =
     let arg = c.args in
-    λ z a h e. assigns z arg.x arg.v h c.write_register.result arg.r a c.in-Is.k
-    (sym (ap value_in c.in-Is.is) ∙ c.value_of.ensures a e) (c.write_register.ensures z)
+    λ z a h e. assigns z arg.x arg.v h c.write_register.result arg.r a c.in_ok-k.k (c.in_ok-k.ensures a e) (c.write_register.ensures z)

@@ -1,53 +1,39 @@
 -- What the search leaves of `record::step::event`.
-use Rattle.std.proofs.Common.{get_or, sym, refl, ap, ◌∙◌}
+use Rattle.std.proofs.Common.{refl, ap, sym, ◌∙◌, arith}
 use Rattle.reader.specs.declared.threads.ThreadEntry.{ThreadEntry}
-use Rattle.reader.specs.Index.{no_entry}
-use Rattle.reader.specs.Facts.{program_in, statement_in}
-use Rattle.state.specs.Shape.{sizes_of}
+use Rattle.reader.specs.Facts.{statement_in}
 use Rattle.state.proofs.Shape.{sizes-regs}
 use Rattle.event.proofs.fetch.Asks.{of-program}
-use Rattle.record.specs.Replay.{thread_at, state_of}
-use Rattle.record.proofs.replay.Ownership.{four-of}
-use Rattle.record.proofs.step.Laws.{due_is, live_is, an-event, not-due, not-allowed}
+use Rattle.record.specs.Replay.{thread_at}
+use Rattle.record.specs.Sheet.{program_of}
+use Rattle.record.proofs.step.Laws.{too_early, held_back, an-event}
 use Rattle.record.proofs.step.event.Goals as goal
+use Rattle.record.proofs.step.event.Goals.{then-not-is_due-via-then-not-is_due, then-not-is_due-via-else-not-is_due+then-not-all_allow}
 
 pub act-requires : goal.act-requires
 act-requires c =
-    let arg = c.args in (
-      of-program arg.sheet.now (program_in arg.sheet.now) arg.plan arg.places.now c.requires.0 arg.t c.requires.1,
-      (statement_in (program_in arg.sheet.now) arg.t (thread_at arg.x arg.t).at, c.fetch-f.ensures),
+    let a = c.args in
+    let g = program_of a.sheet.now in (
+      rw c.from.ensures (of-program a.sheet.now.bytes.now g a.sheet.now.plan a.sheet.now.places.now c.requires.0.planned a.t c.requires.1),
+      (statement_in g a.t (thread_at a.x a.t).at, c.fetch-f.ensures),
     )
 
-pub returns-then-all_allow : goal.returns-then-all_allow
-returns-then-all_allow c =
-    let arg = c.args in
-    an-event arg.sheet.now arg.x (four-of arg.x c.well_formed.1.1.1.0.0 c.well_formed.1.1.1.0.1.1) c.requires.0.facts.threads_few
-    arg.t c.requires.1 c.fetch-f.result c.fetch-f.ensures c.act.result
-    (record { thread = arg.t; registers = (get_or arg.plan.entries arg.t no_entry).registers; tick = arg.e }) refl
-    (ap (λ (i : ThreadEntry). i.registers) (c.requires.0.entries arg.t c.requires.1) ∙ sym
-    (sizes-regs (program_in arg.sheet.now) arg.t)) (sym (due_is arg.sheet.now arg.x
-    (four-of arg.x c.well_formed.1.1.1.0.0 c.well_formed.1.1.1.0.1.1) c.requires.0.facts.threads_few arg.t c.requires.1
-    c.fetch-f.result c.fetch-f.ensures arg.e.0) ∙ sym c.is_due.ensures ∙ c.if-is_due.true)
-    (sym c.all_allow.ensures ∙ c.if-all_allow.true) (c.act.ensures
-    (statement_in (program_in arg.sheet.now) arg.t (thread_at arg.x arg.t).at) c.fetch-f.ensures
-    (live_is arg.sheet.now arg.x (four-of arg.x c.well_formed.1.1.1.0.0 c.well_formed.1.1.1.0.1.1)
-    c.requires.0.facts.threads_few arg.t c.requires.1 c.fetch-f.result c.fetch-f.ensures arg.e.0
-    (sym c.is_due.ensures ∙ c.if-is_due.true)))
-
-pub returns-then-is_due : goal.returns-then-is_due
-returns-then-is_due c =
-    let arg = c.args in
-    c.failed.ensures.0 (sizes_of (program_in arg.sheet.now)) ∙ not-allowed (program_in arg.sheet.now)
-    (state_of (sizes_of (program_in arg.sheet.now)) arg.x) arg.t arg.e.0 c.requires.1
-    (sym (due_is arg.sheet.now arg.x (four-of arg.x c.well_formed.1.1.1.0.0 c.well_formed.1.1.1.0.1.1)
-    c.requires.0.facts.threads_few arg.t c.requires.1 c.fetch-f.result c.fetch-f.ensures arg.e.0) ∙ sym c.is_due.ensures ∙
-    c.if-is_due.true) (sym c.all_allow.ensures ∙ c.if-all_allow.false)
+pub returns-then-not-is_due : goal.returns-then-not-is_due
+returns-then-not-is_due c =
+    let a = c.args in
+    let few = c.requires.0.planned.facts.threads_few in
+    elim c.then-not-is_due.branch [
+      | then-not-is_due-via-then-not-is_due w ↦ too_early a.sheet.now.bytes.now a.x (omega arith) few a.t c.requires.1
+          c.fetch-f.result c.fetch-f.ensures a.e.0 w.if-not-is_due.ensures
+      | then-not-is_due-via-else-not-is_due+then-not-all_allow w ↦ held_back a.sheet.now.bytes.now a.x (omega arith) few a.t c.requires.1
+          c.fetch-f.result c.fetch-f.ensures a.e.0 w.if-not-is_due.ensures w.if-not-all_allow.ensures
+    ]
 
 pub returns : goal.returns
 returns c =
-    let arg = c.args in
-    c.failed-2.ensures.0 (sizes_of (program_in arg.sheet.now)) ∙ not-due (program_in arg.sheet.now)
-    (state_of (sizes_of (program_in arg.sheet.now)) arg.x) arg.t arg.e.0 c.requires.1
-    (sym (due_is arg.sheet.now arg.x (four-of arg.x c.well_formed.1.1.1.0.0 c.well_formed.1.1.1.0.1.1)
-    c.requires.0.facts.threads_few arg.t c.requires.1 c.fetch-f.result c.fetch-f.ensures arg.e.0) ∙ sym c.is_due.ensures ∙
-    c.if-is_due.false)
+    let a = c.args in
+    let r = c.requires.0.planned in
+    an-event a.sheet.now.bytes.now a.x (omega arith) r.facts.threads_few a.t c.requires.1 c.fetch-f.result c.fetch-f.ensures
+    (record { thread = a.t; registers = c.from.result; tick = a.e }) refl
+    (c.from.ensures ∙ ap (λ (i : ThreadEntry). i.registers) (r.entries a.t c.requires.1) ∙ sym (sizes-regs (program_of a.sheet.now) a.t))
+    c.if-not-is_due.ensures c.if-not-all_allow.ensures c.act.result c.act.ensures

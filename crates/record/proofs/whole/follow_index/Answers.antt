@@ -1,28 +1,34 @@
 -- What the search leaves of `record::whole::follow_index`.
-use Rattle.std.proofs.Common.{ap, ◌∙◌}
-use Rattle.event.proofs.PlanLaws.{ready}
-use Rattle.recorded.specs.Follow.{answer_of}
-use Rattle.state.proofs.Ownership.{sound-of}
+use Rattle.std.proofs.Common.{◌≡◌, Bool, length, ap, ◌∙◌, arith}
+use Rattle.rules.specs.Constants.{most_threads}
 use Rattle.reader.specs.Facts.{program_in}
-use Rattle.record.proofs.whole.Start.{starts_from, followed-is}
+use Rattle.event.proofs.PlanLaws.{ready}
+use Rattle.recorded.specs.Follow.{leaves, answer_of}
+use Rattle.record.proofs.whole.Start.{starts_from, variables-are, followed-is}
 use Rattle.record.proofs.whole.follow_index.Goals as goal
 
-pub follow_record-y-requires : goal.follow_record-y-requires
-follow_record-y-requires c =
-    let arg = c.args in (
-      (ready arg.sheet.now arg.index c.requires.0 c.requires.1),
-      starts_from arg.sheet.now arg.index c.requires.0 c.requires.1
-          c.start-first.result (sound-of c.start-first.result c.start-first.type_inv.0 c.start-first.type_inv.1.1).four
-          c.start-first.ensures.starts,
+pub follow_record-requires : goal.follow_record-requires
+follow_record-requires c =
+    let a = c.args in
+    let four : length c.start-first.result.threads ≡ most_threads = omega arith in (
+      record { planned = ready a.bytes.now a.index c.requires; counted = variables-are a.bytes.now a.index c.requires },
+      starts_from a.bytes.now a.index c.requires c.start-first.result four c.start-first.ensures.starts,
     )
 
-pub judged-requires : goal.judged-requires
-judged-requires c =
-    let arg = c.args in
-    (ready arg.sheet.now arg.index c.requires.0 c.requires.1)
+pub all_halt-requires : goal.all_halt-requires
+all_halt-requires c =
+    let a = c.args in
+    record { planned = ready a.bytes.now a.index c.requires; counted = variables-are a.bytes.now a.index c.requires }
 
-pub returns : goal.returns
-returns c =
-    let arg = c.args in
-    c.judged.ensures ∙ ap (answer_of (program_in arg.sheet.now)) c.follow_record-y.ensures ∙ followed-is arg.sheet.now arg.index
-    c.requires.0 c.requires.1 arg.r.now
+pub returns-in-Err : goal.returns-in-Err
+unfolding answer_of
+returns-in-Err c =
+    let a = c.args in
+    c.refused.ensures ∙ ap (answer_of (program_in a.bytes.now)) c.in-Err.ensures ∙ followed-is a.bytes.now a.index c.requires a.r.now
+
+pub returns-in-Ok : goal.returns-in-Ok
+unfolding answer_of
+returns-in-Ok c =
+    let a = c.args in
+    ap (λ (b : Bool). leaves b c.in-Ok.x.tick.0) c.all_halt.ensures
+    ∙ ap (answer_of (program_in a.bytes.now)) c.in-Ok.ensures ∙ followed-is a.bytes.now a.index c.requires a.r.now

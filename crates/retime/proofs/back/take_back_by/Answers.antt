@@ -1,46 +1,44 @@
 -- What the search leaves of `retime::back::take_back_by`.
-use mathlib.Core.Path.{sym, ◌∙◌}
+use Rattle.std.proofs.Common.{sym, ◌∙◌}
 use Rattle.retimed.proofs.Change.{statement-absent}
 use Rattle.retime.specs.Shape.{change_of}
 use Rattle.retime.proofs.Finding.{found-there, found_none}
 use Rattle.retime.proofs.Changing.{may_write}
-use Rattle.retime.proofs.TakingBack.{back-given, found-off, found-since, found_back}
+use Rattle.retime.proofs.TakingBack.{back-placeless, found-off, found-since, found_back}
 use Rattle.retime.proofs.back.take_back_by.Goals as goal
+
+pub returns-in_default : goal.returns-in_default
+returns-in_default c =
+    let s = c.args.sheet.now in
+    let d = change_of c.args.change in
+    let (g, e, r, n) = found_none s c.requires d.thread d.statement c.in_default.ensures in
+    back-placeless s d c.placeless.ensures (statement-absent s d.thread d.statement _ g e r n)
+
+pub returns-then-not-may_have : goal.returns-then-not-may_have
+returns-then-not-may_have c =
+    let s = c.args.sheet.now in
+    let d = change_of c.args.change in
+    let w = found-there s c.requires d.thread d.statement c.in-Some.ensures in
+    back-placeless s d c.placeless-then-not-may_have.ensures (found-off s d w (sym c.may_have.ensures ∙ c.if-not-may_have.true))
+
+pub returns-then-not-shows : goal.returns-then-not-shows
+returns-then-not-shows c =
+    let s = c.args.sheet.now in
+    let d = change_of c.args.change in
+    let w = found-there s c.requires d.thread d.statement c.in-Some.ensures in
+    back-placeless s d c.placeless-then-not-shows.ensures
+    (found-since s d w (sym c.may_have.ensures ∙ c.if-not-may_have.false) (sym c.shows.ensures ∙ c.if-not-shows.true))
 
 pub write_times-requires : goal.write_times-requires
 write_times-requires c =
     let s = c.args.sheet.now in
     let d = change_of c.args.change in
-    let w = found-there s c.requires.0 c.requires.1 d.thread d.statement c.find-f.ensures c.if-f.true in
-    may_write w d.old_least d.old_greatest (sym c.may_have.ensures ∙ c.if-may_have.true)
-
-pub returns-then-shows : goal.returns-then-shows
-returns-then-shows c =
-    let s = c.args.sheet.now in
-    let d = change_of c.args.change in
-    let w = found-there s c.requires.0 c.requires.1 d.thread d.statement c.find-f.ensures c.if-f.true in
-    found_back s d w (sym c.may_have.ensures ∙ c.if-may_have.true)
-    (sym c.shows.ensures ∙ c.if-shows.true) c.write_times.ensures c.answered.ensures
-
-pub returns-then-may_have : goal.returns-then-may_have
-returns-then-may_have c =
-    let s = c.args.sheet.now in
-    let d = change_of c.args.change in
-    let w = found-there s c.requires.0 c.requires.1 d.thread d.statement c.find-f.ensures c.if-f.true in
-    back-given s d (found-since s d w (sym c.may_have.ensures ∙ c.if-may_have.true) (sym c.shows.ensures ∙ c.if-shows.false))
-    c.number_of-number.ensures c.answered-then-may_have.ensures
-
-pub returns-then-f : goal.returns-then-f
-returns-then-f c =
-    let s = c.args.sheet.now in
-    let d = change_of c.args.change in
-    let w = found-there s c.requires.0 c.requires.1 d.thread d.statement c.find-f.ensures c.if-f.true in
-    back-given s d (found-off s d w (sym c.may_have.ensures ∙ c.if-may_have.false)) c.number_of-number-then-f.ensures
-    c.answered-then-f.ensures
+    let w = found-there s c.requires d.thread d.statement c.in-Some.ensures in
+    may_write w d.old_least d.old_greatest (sym c.may_have.ensures ∙ c.if-not-may_have.false)
 
 pub returns : goal.returns
 returns c =
     let s = c.args.sheet.now in
     let d = change_of c.args.change in
-    let (g, e, r, n) = found_none s c.requires.0 c.requires.1 d.thread d.statement c.find-f.ensures c.if-f.false in
-    back-given s d (statement-absent s d.thread d.statement _ g e r n) c.number_of-number-2.ensures c.answered-2.ensures
+    let w = found-there s c.requires d.thread d.statement c.in-Some.ensures in
+    found_back s d w (sym c.may_have.ensures ∙ c.if-not-may_have.false) (sym c.shows.ensures ∙ c.if-not-shows.false) c.write_times.ensures

@@ -16,7 +16,7 @@ unfolding written change_text
 returns-clause-writes c =
     let a = c.args in
     let e = c.change_times-c.ensures.sheet_after in
-    let w = then-writes _ _ _ _ _ _ _ _ c.put_line-end.ensures c.put_sheet.ensures in
+    let w = then-writes _ _ _ _ _ _ _ _ c.put_change-end.ensures c.put_sheet.ensures in
     w ∙ ap (λ (x : Changed). write (change_text x) (out_of a.out.now 0)) e
 
 pub returns-clause-upper_bound : goal.returns-clause-upper_bound
@@ -27,6 +27,6 @@ returns-clause-upper_bound c =
     let e = c.change_times-c.ensures.sheet_after in
     let same : length c.change_times-c.new.sheet ≡ length a.sheet.now = search rules in
     let pre = c.requires in
-    let w = then-writes _ _ _ _ _ _ _ _ c.put_line-end.ensures c.put_sheet.ensures in
+    let w = then-writes _ _ _ _ _ _ _ _ c.put_change-end.ensures c.put_sheet.ensures in
     text-fits _ (omega arith & omega arith & omega arith & omega arith & omega arith & omega arith & omega arith & omega arith & nil)
     (omega arith) _ _ (omega (arith, pre.0)) _ _ _ pre.1 w

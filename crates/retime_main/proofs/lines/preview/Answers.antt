@@ -14,8 +14,8 @@ returns-clause-writes c =
     let previews = c.preview_times-then in
     let x = answer_of checked.result in
     let y = answer_of previews.result in
-    let v = c.put_five-second.ensures in
-    let w = c.put_five.ensures in
+    let v = c.put_answer-second.ensures in
+    let w = c.put_answer.ensures in
     two-written x y _ _ _ _ _ v w a.sheet.now a.a.thread a.a.statement a.a.least a.a.greatest checked.ensures.follows_the_rules
     (previewed _ _ _ _ _ _ _ y previews.ensures.result_value refl (ap length checked.ensures.all_zeros))
 
@@ -27,7 +27,7 @@ returns-clause-upper_bound c =
     let okay = previews.type_inv in
     let x = answer_of checked.result in
     let y = answer_of previews.result in
-    let v = c.put_five-second.ensures in
-    let w = c.put_five.ensures in
+    let v = c.put_answer-second.ensures in
+    let w = c.put_answer.ensures in
     two-fit x y _ _ _ _ _ v w (five-length x (omega arith) (omega arith) (omega arith) (omega arith) (omega arith))
     (five-length y (omega arith) (omega arith) (omega arith) (omega arith) (omega arith)) c.requires

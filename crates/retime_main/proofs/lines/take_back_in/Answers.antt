@@ -7,7 +7,6 @@ use Rattle.writing.specs.Out.{out_of, write}
 use Rattle.writing.proofs.Written.{then-writes}
 use Rattle.retimed.specs.TakeBack.{TakenBack}
 use Rattle.retime_main.specs.Line.{back_text, written_back}
-use Rattle.writing.proofs.Line.{number-then, last-number}
 use Rattle.retime_main.proofs.Laws.{text-fits}
 use borrow.Author.Rules.{rules}
 use Rattle.retime_main.proofs.lines.take_back_in.Goals as goal
@@ -17,7 +16,7 @@ unfolding written_back back_text
 returns-clause-writes c =
     let a = c.args in
     let e = c.take_back-b.ensures.sheet_after in
-    let line = number-then _ _ _ _ _ _ _ _ _ c.put_number-second.ensures (last-number _ _ _ _ _ c.put_number-end.ensures) in
+    let line = c.put_line-end.ensures.writes in
     let w = then-writes _ _ _ _ _ _ _ _ line c.put_sheet.ensures in
     w ∙ ap (λ (x : TakenBack). write (back_text x) (out_of a.out.now 0)) e
 
@@ -29,6 +28,6 @@ returns-clause-upper_bound c =
     let e = c.take_back-b.ensures.sheet_after in
     let same : length c.take_back-b.new.sheet ≡ length a.sheet.now = search rules in
     let pre = c.requires in
-    let line = number-then _ _ _ _ _ _ _ _ _ c.put_number-second.ensures (last-number _ _ _ _ _ c.put_number-end.ensures) in
+    let line = c.put_line-end.ensures.writes in
     let w = then-writes _ _ _ _ _ _ _ _ line c.put_sheet.ensures in
     text-fits _ (omega arith & omega arith & nil) (omega arith) _ _ (omega (arith, pre.0)) _ _ _ pre.1 w

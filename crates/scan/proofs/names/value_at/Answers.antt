@@ -1,32 +1,18 @@
 -- What the search leaves of `scan::names::value_at`.
-use mathlib.Core.Path.{◌∙◌}
-use Rattle.scan.proofs.NameLaws.{value-over, value-minus, value-plain}
-use borrow.Author.Rules.{rules}
+use Rattle.std.proofs.Common.{arith}
+use Rattle.text.specs.Words.{map_read, signed, signed_here, digits}
+use Rattle.scan.proofs.WordLaws.{here, over}
+use Rattle.scan.proofs.Readings.{map-map}
 use Rattle.scan.proofs.names.value_at.Goals as goal
 
-pub returns-then-s-q : goal.returns-then-s-q
-returns-then-s-q c =
-    let arg = c.args in
-    (value-over arg.s.now arg.p c.spaces_end-q.result c.spaces_end-q.ensures.0 c.if-s-q.true, c.spaces_end-q.ensures.1)
+pub returns-in-Some-eq45-clause-reads : goal.returns-in-Some-eq45-clause-reads
+unfolding signed signed_here map_read
+returns-in-Some-eq45-clause-reads c =
+    let r = c.negated.ensures.reads _ _ c.number_at.ensures.reads in
+    grind (arith, here, map-map)
 
-pub returns-then-s-q-eq45 : goal.returns-then-s-q-eq45
-returns-then-s-q-eq45 c =
-    let arg = c.args in
-    let a = c.spaces_end-q.ensures.1.0 in
-    let n = c.number_at-n.ensures.1 in
-    let g = c.negated.ensures.1 in (
-      c.negated.ensures.0 _ _ c.number_at-n.ensures.0 ∙ value-minus arg.s.now arg.p c.spaces_end-q.result
-          c.spaces_end-q.ensures.0 c.if-s-q.false c.if-s-q-eq45.true,
-      (search rules, search rules),
-    )
-
-pub returns : goal.returns
-returns c =
-    let arg = c.args in
-    let a = c.spaces_end-q.ensures.1.0 in
-    let n = c.digits_at-n.ensures.1 in
-    let g = c.positive.ensures.1 in (
-      c.positive.ensures.0 _ _ c.digits_at-n.ensures.0 ∙ value-plain arg.s.now arg.p c.spaces_end-q.result
-          c.spaces_end-q.ensures.0 c.if-s-q.false c.if-s-q-eq45.false,
-      (search rules, search rules),
-    )
+pub returns-in_default-clause-reads : goal.returns-in_default-clause-reads
+unfolding signed signed_here map_read digits
+returns-in_default-clause-reads c =
+    let r = c.positive.ensures.reads _ _ c.digits_at.ensures.reads in
+    grind (arith, here, over, map-map)

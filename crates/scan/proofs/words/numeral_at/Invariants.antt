@@ -1,11 +1,6 @@
--- What each loop of `scan::words::numeral_at` keeps, and what falls.
-use Prim.Native.Nat.{◌-◌}
-use lib.ListN.{length}
+-- What each loop of `scan::words::numeral_at` keeps.
 use Rattle.scan.proofs.WordLaws.{SoFar}
 use Rattle.scan.proofs.words.numeral_at.Given as goal
 
 abbrev pub invariant-loop-q : goal.invariant-loop-q
 invariant-loop-q l = SoFar l.s l.v l.p l.w l.q
-
-abbrev pub decreases-loop-q : goal.decreases-loop-q
-decreases-loop-q l = length l.s - l.q

@@ -1,56 +1,64 @@
 -- What the search leaves of `search::turn::turn`.
+use mathlib.Core.Path.{◌≡◌, refl, ap}
+use Prim.Native.Nat.{◌≤◌, ◌<◌}
 use native.Mathlib.Omega.{arith}
-use Rattle.state.specs.Cells.{decode}
-use Rattle.state.specs.Shape.{sizes_of}
-use Rattle.reader.specs.Facts.{program_in}
+use Rattle.std.proofs.Common.{rules, Err}
+use Rattle.std.proofs.lemmas.Result.{err_from_is_err_and}
+use Rattle.rules.specs.Search as S
+use Rattle.search.specs.Taken.{program_of, rules_state}
+use Rattle.search.specs.Turn.{events_in}
+use Rattle.search.proofs.TurnLaws.{turns-failed, turns-made}
 use Rattle.search.proofs.WholeTurn.{turn-ended, turn-stuck, turn-past, turn-follows, limit-small, low_small}
-use borrow.Author.Rules.{rules}
 use Rattle.search.proofs.turn.turn.Goals as goal
+use Rattle.search.proofs.turn.turn.Goals.{Else-lt}
 
-pub returns-then-not-a : goal.returns-then-not-a
-returns-then-not-a c =
-    let a = c.args in
-    let g = program_in a.sheet.now in
-    let s = decode a.cells.now in
-    let v = c.survey_threads-threads.result.survey in
-    let sv = c.survey_threads-threads.ensures.surveys in
-    turn-ended g (sizes_of g) s a.slots a.work.now a.height v sv c.if-not-a.true
+pub returns-in_default : goal.returns-in_default
+returns-in_default c = rw (turn-ended c.args.taken.now _ c.survey_threads-threads.ensures.surveys c.in_default.is) (refl, refl)
 
-pub returns-then-a : goal.returns-then-a
-returns-then-a c =
-    let a = c.args in
-    let g = program_in a.sheet.now in
-    let s = decode a.cells.now in
-    let v = c.survey_threads-threads.result.survey in
-    let sv = c.survey_threads-threads.ensures.surveys in
-    turn-stuck g (sizes_of g) s a.slots a.work.now a.height v sv c.if-not-a.false c.if-a.true
+pub returns-then-survey : goal.returns-then-survey
+returns-then-survey c = rw (turn-stuck c.args.taken.now _ c.survey_threads-threads.ensures.surveys c.in-Some.bound c.in-Some.is
+    c.if-survey.true) (ap Err c.without_place.ensures, refl)
 
-pub returns-then-limit-bound : goal.returns-then-limit-bound
-returns-then-limit-bound c =
-    let a = c.args in
-    let g = program_in a.sheet.now in
-    let s = decode a.cells.now in
-    let v = c.survey_threads-threads.result.survey in
-    let sv = c.survey_threads-threads.ensures.surveys in
-    turn-past g (sizes_of g) s a.slots a.work.now a.height v sv c.if-not-a.false c.if-a.false a.plan.limit.0 c.requires.0.limit c.if-limit-bound.true
+pub returns-then-lt : goal.returns-then-lt
+returns-then-lt c =
+    let x = c.args.taken.now in
+    let limit = c.requires.0.limit in
+    let late : x.plan.limit.0 < c.in-Some.bound.0 = search rules in
+    rw (turn-past x _ c.survey_threads-threads.ensures.surveys c.in-Some.bound c.in-Some.is c.if-survey.false (omega arith))
+    (ap Err c.without_place-then-lt.ensures, refl)
 
-pub expand-m-requires : goal.expand-m-requires
-expand-m-requires c =
-    let a = c.args in
-    let g = program_in a.sheet.now in
-    let s = decode a.cells.now in
-    let v = c.survey_threads-threads.result.survey in
-    let sv = c.survey_threads-threads.ensures.surveys in
-    let small = limit-small a.sheet.now g a.plan a.places.now c.requires.0 in
-    let low = c.if-limit-bound.false in
-    (c.requires.0, (c.survey_threads-threads.ensures.earliest_from, (omega arith, (low_small g s c.requires.1.0 c.requires.0.facts.threads_few v sv, (c.requires.1.1.0, c.requires.1.1.1)))))
+pub expand-requires : goal.expand-requires
+expand-requires c =
+    let x = c.args.taken.now in
+    let small = limit-small x.sheet.now _ x.plan x.places.now c.requires.0 in
+    let in_time : c.in-Some.bound.0 ≤ x.plan.limit.0 = search rules in (
+      c.requires.0,
+      (
+        c.survey_threads-threads.ensures.earliest_from,
+        (
+          omega arith,
+          (
+            low_small x c.requires.1.0 c.requires.0.facts.threads_few _ c.survey_threads-threads.ensures.surveys,
+            (c.requires.1.1.0, c.requires.1.1.1),
+          ),
+        ),
+      ),
+    )
+
+-- the events come to the turn
+events-turn : (c : Else-lt) → S.turn (program_of c.args.taken.now)
+    (rules_state c.args.taken.now) ≡ events_in c.args.taken.now c.survey_threads-threads.result.survey.low.0 c.in-Some.bound.0 0
+events-turn c =
+    let x = c.args.taken.now in
+    let limit = c.requires.0.limit in
+    let in_time : c.in-Some.bound.0 ≤ x.plan.limit.0 = search rules in
+    turn-follows x _ c.survey_threads-threads.ensures.surveys c.in-Some.bound c.in-Some.is c.if-survey.false (omega arith)
+
+pub returns-in_err-height : goal.returns-in_err-height
+returns-in_err-height c =
+    let p = err_from_is_err_and c.from_residual.result c.from_residual.ensures.1 in
+    rw (p.1, p.2, events-turn (goal.at.returns-in_err-height c).Else-lt)
+    (turns-failed _ _ _ _ _ _ _ c.in_err-height.ensures)
 
 pub returns : goal.returns
-returns c =
-    let a = c.args in
-    let g = program_in a.sheet.now in
-    let s = decode a.cells.now in
-    let v = c.survey_threads-threads.result.survey in
-    let sv = c.survey_threads-threads.ensures.surveys in
-    turn-follows g (sizes_of g) s a.slots a.work.now a.height v sv c.if-not-a.false c.if-a.false a.plan.limit.0 c.requires.0.limit c.if-limit-bound.false
-    c.expand-m.new.work c.expand-m.result c.as_turned.result c.expand-m.ensures c.as_turned.ensures
+returns c = rw (events-turn (goal.at.returns c).Else-lt) (turns-made _ _ _ _ _ _ _ c.in_ok-height.ensures)

@@ -1,15 +1,12 @@
 -- What the search leaves of `search::whole::search_index`.
 use Rattle.event.proofs.PlanLaws.{ready}
 use Rattle.search.proofs.WholeLaws.{from_first}
-use borrow.Author.Rules.{rules}
 use Rattle.search.proofs.whole.search_index.Goals as goal
 
 pub search-requires : goal.search-requires
-search-requires c =
-    let arg = c.args in
-    (ready arg.sheet.now arg.index c.requires.0 c.requires.1.0, (c.start-first.ensures.timed, c.requires.1.1))
+search-requires c = (ready c.args.sheet.now c.args.index c.requires.0, (c.start-first.ensures.timed, c.requires.1))
 
 pub returns-clause-result_value : goal.returns-clause-result_value
 returns-clause-result_value c =
-    let arg = c.args in
-    from_first arg.sheet.now arg.index c.requires.0 c.requires.1.0 arg.slots c.start-first.result c.start-first.ensures.starts c.search.ensures.result_value
+    from_first c.args.sheet.now c.args.index c.requires.0 c.args.slots c.start-first.result c.start-first.ensures.starts
+    c.search.ensures.result_value

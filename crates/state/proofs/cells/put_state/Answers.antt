@@ -1,11 +1,15 @@
 -- What the search leaves of `state::cells::put_state`.
-use Rattle.state.proofs.Writing.{state-written}
+use Rattle.std.proofs.Common.{◌≡◌, arith}
+use Rattle.state.proofs.Writing.{no-rows, rows-put, state-written}
 use Rattle.state.proofs.cells.put_state.Goals as goal
+
+pub loop-t-init : goal.loop-t-init
+loop-t-init c = no-rows _ _
+
+pub loop-t-preserved : goal.loop-t-preserved
+loop-t-preserved c = rows-put c.args.s c.loop-t.t _ _ _ c.loop-t.invariant c.put_thread.ensures (omega arith)
 
 pub returns : goal.returns
 returns c =
-    state-written c.args.cells.now c.args.s
-    c.put_thread.new.cells c.put_thread-2.new.cells c.put_thread-3.new.cells c.put_thread-4.new.cells
-    c.put_spans.new.cells c.put_owners.new.cells c.requires.0
-    c.put_thread.ensures c.put_thread-2.ensures c.put_thread-3.ensures c.put_thread-4.ensures
-    c.put_spans.ensures c.put_owners.ensures
+    let all : c.loop-t.t ≡ 4 = omega arith in
+    state-written c.loop-t.cells c.args.cells.now c.args.s _ _ c.requires.0 (rw all at c.loop-t.invariant) c.put_spans.ensures c.put_owners.ensures

@@ -11,8 +11,8 @@ pub returns : goal.returns
 returns c =
     let b = c.args.cells.now in
     let p = c.args.t * 19 in
-    let low = c.cell_time-low.ensures.0 ∙ ap time_of (again (cell_at b (p + 1)) (search rules)) in
-    let high = c.cell_time-high.ensures.0 ∙ ap time_of (again (cell_at b (p + 2)) (search rules)) in (
+    let low = c.cell_time.ensures.0 ∙ ap time_of (again (cell_at b (p + 1)) (search rules)) in
+    let high = c.cell_time-2.ensures.0 ∙ ap time_of (again (cell_at b (p + 2)) (search rules)) in (
       (λ i. record { low = record { 0 = low i }; high = record { 0 = high i } }) ∙ clock_is b c.args.t c.requires,
-      (c.cell_time-low.ensures.1, c.cell_time-high.ensures.1),
+      (c.cell_time.ensures.1, c.cell_time-2.ensures.1),
     )

@@ -1,5 +1,0 @@
--- The depth that is left falls.
-use Rattle.expression.proofs.evaluation.+evaluate.Given as goal
-
-abbrev pub decreases-evaluate : goal.decreases-evaluate
-decreases-evaluate l = l.depth

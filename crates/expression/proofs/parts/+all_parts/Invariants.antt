@@ -1,5 +1,0 @@
--- The depth that is left falls.
-use Rattle.expression.proofs.parts.+all_parts.Given as goal
-
-abbrev pub decreases-all_parts : goal.decreases-all_parts
-decreases-all_parts l = l.depth

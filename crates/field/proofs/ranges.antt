@@ -1,2 +1,0 @@
--- What the proofs of several functions of `ranges` cite.
-pub mod Laws

@@ -1,2 +1,0 @@
--- What the proofs of several functions of `statements` cite.
-pub mod Laws

@@ -1,0 +1,2 @@
+-- What the proofs of several modules cite.
+pub mod Opened

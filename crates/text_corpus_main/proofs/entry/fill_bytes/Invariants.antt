@@ -1,6 +1,0 @@
--- How long the loop of `text_corpus_main::entry::fill_bytes` goes on.
-use Rattle.std.proofs.Common.{◌-◌, length}
-use Rattle.text_corpus_main.proofs.entry.fill_bytes.Given as goal
-
-abbrev pub decreases-loop-i : goal.decreases-loop-i
-decreases-loop-i l = length l.initial.buffer - l.i
