@@ -23,6 +23,7 @@ fn put_bytes(buffer: &mut [u8], s: Step) {
     }
 }
 
+// The refusal as C gets it, and as the corpus states it.
 fn same_answer(refusal: u32, place: usize, s: Step) -> bool {
     refusal == s.refusal && place == s.place
 }

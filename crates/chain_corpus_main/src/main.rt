@@ -10,46 +10,62 @@ mod calls;
 mod step;
 
 use crate::calls::{Verdict, compare_step};
-use crate::step::{BYTES, step_of};
-use corpus::{copy_bytes, counted, four, over_entries, put, read_front};
-use files::read_full;
-use std::io::Read;
+use crate::step::{BYTES, Step};
+use corpus::{Count, Planted, bytes_at, copy_bytes, front, over_entries, read_front};
+use std::io::{Print, Read};
 
 // Bytes of a sheet at most.
 const ROOM: usize = 20000;
 
-// What is planted in a chain: one of its numbers is wrong, or what a step makes of the sheet. No corpus has another number there; it would
-// count for nothing.
-#[derive(Clone, Copy, PartialEq, Eq)]
-enum Planted {
-    Nothing,
-    WrongNumber,
-    WrongSheet,
-    Unknown,
+// What stands before a chain's sheet: what is planted, if it is known, the sheet's length, and how many steps there are. No corpus has a
+// number of something else that is planted; it would count for nothing.
+#[derive(Clone, Copy)]
+struct Front {
+    planted: Option<Planted>,
+    sheet: usize,
+    steps: u32,
 }
 
-impl From<u8> for Planted {
-    fn from(n: u8) -> Planted {
-        match n {
-            0 => Planted::Nothing,
-            1 => Planted::WrongNumber,
-            2 => Planted::WrongSheet,
-            _ => Planted::Unknown,
+impl From<[u8; 9]> for Front {
+    fn from(b: [u8; 9]) -> Front {
+        Front {
+            planted: Planted::try_from(b[0]).ok(),
+            // `usize` has no `From<u32>`, and a `try_from` would give an error that cannot come.
+            sheet: u32::from_be_bytes(bytes_at(&b, 1)) as usize,
+            steps: u32::from_be_bytes(bytes_at(&b, 5)) / (BYTES as u32),
         }
     }
 }
 
-// How many chains are right, their steps, and how many of these chains differ; how many have a wrong number or a wrong sheet, and how many
-// of these were noticed.
+// The chains that are right, of which none is to differ, and their steps; those that have a wrong number or a wrong sheet.
 #[derive(Clone, Copy, Default)]
 struct Tally {
-    chains: u64,
+    chains: Count,
     steps: u64,
-    differ: u64,
-    numbers: u64,
-    numbers_noticed: u64,
-    sheets: u64,
-    sheets_noticed: u64,
+    numbers: Count,
+    sheets: Count,
+}
+
+impl Tally {
+    // One chain more. Of two facts the one that is planted does not hold, the other does.
+    fn with(self, planted: Option<Planted>, v: Verdict) -> Tally {
+        match planted {
+            Some(Planted::Nothing) => Tally {
+                chains: self.chains.with(!(v.numbers && v.sheet)),
+                steps: v.steps,
+                ..self
+            },
+            Some(Planted::WrongNumber) => Tally {
+                numbers: self.numbers.with(!v.numbers && v.sheet),
+                ..self
+            },
+            Some(Planted::WrongSheet) => Tally {
+                sheets: self.sheets.with(v.numbers && !v.sheet),
+                ..self
+            },
+            None => self,
+        }
+    }
 }
 
 // One step more; none where the corpus does not hold it whole.
@@ -59,25 +75,20 @@ fn compare_next<R: Read>(
     sheet: &mut [u8],
     stated: &mut [u8],
 ) -> Option<Verdict> {
-    let mut bytes = [0u8; BYTES];
-    if read_full(from, &mut bytes) < BYTES {
-        return None;
-    }
-    Some(compare_step(v, step_of(&bytes), sheet, stated))
+    let step = Step::from(front(from)?);
+    Some(compare_step(v, step, sheet, stated))
 }
 
 // So many steps of a chain, one after another in the same sheet; so many were compared before. The second buffer holds what the sheet
 // is to be.
 fn compare_chain<R: Read>(
     from: &mut R,
-    count: u64,
+    count: u32,
     before: u64,
     sheet: &mut [u8],
     stated: &mut [u8],
 ) -> Option<Verdict> {
-    if !copy_bytes(sheet, stated) {
-        return None;
-    }
+    copy_bytes(sheet, stated)?;
     let mut v = Verdict {
         numbers: true,
         sheet: true,
@@ -89,21 +100,6 @@ fn compare_chain<R: Read>(
     Some(v)
 }
 
-fn added(t: Tally, v: Verdict, planted: Planted) -> Tally {
-    let right = planted == Planted::Nothing;
-    let number = planted == Planted::WrongNumber;
-    let sheet = planted == Planted::WrongSheet;
-    Tally {
-        chains: counted(t.chains, right),
-        steps: if right { v.steps } else { t.steps },
-        differ: counted(t.differ, right && !(v.numbers && v.sheet)),
-        numbers: counted(t.numbers, number),
-        numbers_noticed: counted(t.numbers_noticed, number && !v.numbers && v.sheet),
-        sheets: counted(t.sheets, sheet),
-        sheets_noticed: counted(t.sheets_noticed, sheet && v.numbers && !v.sheet),
-    }
-}
-
 // One chain more, its sheet at the front of both buffers; none where the corpus does not hold it whole.
 fn compare_entry<R: Read>(
     from: &mut R,
@@ -111,35 +107,25 @@ fn compare_entry<R: Read>(
     sheet: &mut [u8],
     stated: &mut [u8],
 ) -> Option<Tally> {
-    let mut front = [0u8; 9];
-    if read_full(from, &mut front) < 9 {
-        return None;
-    }
-    let n = four(front[1], front[2], front[3], front[4]) as usize;
-    let steps = four(front[5], front[6], front[7], front[8]) / (BYTES as u64);
-    if !read_front(from, sheet, n) {
-        return None;
-    }
-    let sheet = sheet.get_mut(..n)?;
-    let stated = stated.get_mut(..n)?;
-    let v = compare_chain(from, steps, t.steps, sheet, stated)?;
-    Some(added(t, v, Planted::from(front[0])))
+    let f = Front::from(front(from)?);
+    read_front(from, sheet, f.sheet)?;
+    let sheet = sheet.get_mut(..f.sheet)?;
+    let stated = stated.get_mut(..f.sheet)?;
+    let v = compare_chain(from, f.steps, t.steps, sheet, stated)?;
+    Some(t.with(f.planted, v))
 }
 
 fn main(rt: HostRuntime) {
     let mut sheet = [0u8; ROOM];
     let mut stated = [0u8; ROOM];
-    let tally = over_entries(&mut rt.stdin(), Tally::default(), |from, t| {
+    let Some(t) = over_entries(&mut rt.stdin(), Tally::default(), |from, t| {
         compare_entry(from, t, &mut sheet, &mut stated)
-    });
-    let Some(t) = tally else {
+    }) else {
         return;
     };
-    put(rt, t.chains, b" chains of ");
-    put(rt, t.steps, b" steps compared, ");
-    put(rt, t.differ, b" differ; noticed of what is planted: ");
-    put(rt, t.numbers_noticed, b" of ");
-    put(rt, t.numbers, b" wrong numbers, ");
-    put(rt, t.sheets_noticed, b" of ");
-    put(rt, t.sheets, b" wrong sheets\n");
+    let _ = print!(rt;
+        "{} chains of {} steps compared, {} differ; noticed of what is planted: ",
+        t.chains.all, t.steps, t.chains.noticed
+    );
+    let _ = println!(rt; "{} wrong numbers, {} wrong sheets", t.numbers, t.sheets);
 }

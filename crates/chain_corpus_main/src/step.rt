@@ -1,7 +1,8 @@
-// A step of a chain as the corpus has it.
+// A step of a chain as the corpus has it. Numbers are made wider by `as`: `usize` has no `From<u64>`, and a `try_from` would give an error
+// that cannot come.
 ghost use Rattle.std.specs.Prelude.{◌+◌, ◌≤◌};
 
-use corpus::two;
+use corpus::{bytes_at, two};
 use retime::{Asked, Change};
 
 // Bytes of a step.
@@ -15,7 +16,8 @@ pub(crate) enum Call {
     Write,
 }
 
-// The call, and what is stated of its answer; then which bytes, `count` of four, the sheet has from `at` on after the step.
+// The call, and what is stated of its answer, its refusal as C gets it; then which bytes the sheet has from `at` on after the step, `count`
+// of four: there is no heap for fewer.
 #[derive(Clone, Copy)]
 pub(crate) struct Step {
     pub(crate) call: Call,
@@ -27,31 +29,22 @@ pub(crate) struct Step {
     pub(crate) bytes: [u8; 4],
 }
 
-// The number in the eight bytes from this place on.
-fn eight_at(b: &[u8; BYTES], at: usize) -> u64
-    requires { at + 8 ≤ BYTES }
-{
-    let mut bytes = [0u8; 8];
-    bytes.copy_from_slice(&b[at..at + 8]);
-    u64::from_be_bytes(bytes)
-}
-
 // The six numbers from this place on.
 fn change_at(b: &[u8; BYTES], at: usize) -> Change
     requires { at + 48 ≤ BYTES }
 {
     Change {
-        thread: eight_at(b, at) as usize,
-        statement: eight_at(b, at + 8) as usize,
-        old_least: eight_at(b, at + 16),
-        old_greatest: eight_at(b, at + 24),
-        new_least: eight_at(b, at + 32),
-        new_greatest: eight_at(b, at + 40),
+        thread: u64::from_be_bytes(bytes_at(b, at)) as usize,
+        statement: u64::from_be_bytes(bytes_at(b, at + 8)) as usize,
+        old_least: u64::from_be_bytes(bytes_at(b, at + 16)),
+        old_greatest: u64::from_be_bytes(bytes_at(b, at + 24)),
+        new_least: u64::from_be_bytes(bytes_at(b, at + 32)),
+        new_greatest: u64::from_be_bytes(bytes_at(b, at + 40)),
     }
 }
 
 // Of a change its thread, its statement and its times are given, least and greatest, in the places of the old ones; of a change taken
-// back all of it.
+// back all of it. The kind is the corpus's byte, of which any other number writes bytes.
 fn call_of(kind: u8, given: Change) -> Call {
     match kind {
         0 => Call::ChangeTimes(Asked {
@@ -65,14 +58,16 @@ fn call_of(kind: u8, given: Change) -> Call {
     }
 }
 
-pub(crate) fn step_of(b: &[u8; BYTES]) -> Step {
-    Step {
-        call: call_of(b[0], change_at(b, 1)),
-        refusal: u32::from(b[49]),
-        place: two(b[50], b[51]) as usize,
-        did: change_at(b, 52),
-        at: two(b[100], b[101]) as usize,
-        count: usize::from(b[102]),
-        bytes: [b[103], b[104], b[105], b[106]],
+impl From<[u8; BYTES]> for Step {
+    fn from(b: [u8; BYTES]) -> Step {
+        Step {
+            call: call_of(b[0], change_at(&b, 1)),
+            refusal: u32::from(b[49]),
+            place: two(b[50], b[51]) as usize,
+            did: change_at(&b, 52),
+            at: two(b[100], b[101]) as usize,
+            count: usize::from(b[102]),
+            bytes: bytes_at(&b, 103),
+        }
     }
 }

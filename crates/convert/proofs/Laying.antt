@@ -17,7 +17,8 @@ use Rattle.text.specs.Convert.{line_fits}
 use Rattle.scan.proofs.WordLaws.{here, over}
 use Rattle.lines.specs.Writing.{Lines, Put, due_of, field_before}
 use Rattle.convert.specs.Whole.{place_in, Laid, Lays}
-use Rattle.lines.specs.declared.line.Field.{Field}
+use Rattle.scan.specs.declared.step.Built.{Built}
+use Rattle.lines.specs.declared.line.Due as D
 
 -- bytes put at the front
 pub front-put : (o e : Bytes) → length e ≤ length o → take (length e) (sets o 0 e) ≡ e
@@ -81,9 +82,9 @@ module _ (before part part' : Bytes) (k : ℕ) (h : k ≤ length before) (l : le
           ap (λ z. take (length x) (drop z after)) e ∙ ap (take (length x)) (behind ∙ b) ∙ front-put part x (omega arith);
     }
 
-    pub lays : (g : Read Line) (r : Result Field ℕ) → Lines s part 0 part' g r → Lays s before from whole after g r
+    pub lays : (g : Read Line) (r : Result (Built D.Due) ℕ) → Lines s part 0 part' g r → Lays s before from whole after g r
     unfolding Lines
-    lays g (Ok x) p = laid g (due_of x.due) x.place x.end x.fits p
+    lays g (Ok x) p = laid g (due_of x.kind) x.place x.end x.fits p
     lays g (Err q) p = p
 
 -- ---- a text's end

@@ -1,5 +1,5 @@
 -- Pieces one behind the other, at the front of a buffer.
-use Rattle.std.specs.Prelude.{if◌then◌else◌}
+use Rattle.std.specs.Prelude.{if◌then◌else◌, Option}
 use mathlib.Core.Path.{◌≡◌, refl, sym, ap, subst, ◌∙◌}
 use mathlib.Core.Bool.{Bool, true, false}
 use mathlib.Core.List.{List, [], ◌∷◌, ◌++◌, append_assoc, append-nil}
@@ -12,7 +12,7 @@ use borrow.Author.Tests.{lt-ltb, le-ltb, ltb-true, ltb-false}
 use Rattle.rules.specs.Format.{Bytes}
 use Rattle.rules.specs.Encoding.{in_row}
 use Rattle.text.specs.Convert.{Piece, written, piece_at}
-use Rattle.convert.specs.Whole.{Stands, SoFar, written_of}
+use Rattle.convert.specs.Whole.{Stands, SoFar, at_target, written_of}
 use Rattle.convert.specs.declared.whole.Written.{Written}
 
 -- ---- rows
@@ -151,11 +151,11 @@ module _ (xs : List Piece) (x : Piece) (m : Bytes) (target : ℕ) (w : Written) 
     pub start-goes : length (in_row written xs) + length (written x) ≤ length m → st ≡ (piece_at (xs ++ (x ∷ [])) target).start
     pub fits-goes : length (in_row written xs) + length (written x) ≤ length m → b ≡ (piece_at (xs ++ (x ∷ [])) target).fits
 
-  pub more : {a : Bytes} {n k to whole st : ℕ} {f b : Bool} → x.fits ≡ f → n ≡ min (length x.whole) 65536
+  pub more : {a : Bytes} {n k to whole : ℕ} {o : Option (ℕ × Bool)} {f : Bool} → x.fits ≡ f → n ≡ min (length x.whole) 65536
       → (w.whole ≤ length m → Stands m w.end x.whole f)
       → k ≡ size_of f n → a ≡ after_of f m w.end → to ≡ min (w.end + k) 65536 → whole ≡ min (w.whole + n) 65536
-      → Aims st b → SoFar (xs ++ (x ∷ [])) a target (written_of to whole st b)
-  more {a} {n} {k} {to} {whole} {st} {f} {b} e ln sd ke ae te we g =
+      → Aims (at_target o).0 (at_target o).1 → SoFar (xs ++ (x ∷ [])) a target (written_of to whole o)
+  more {a} {n} {k} {to} {whole} {o} {f} e ln sd ke ae te we g =
       let l : length (in_row written (xs ++ (x ∷ []))) ≡ length (in_row written xs) + length (written x) = row-length written xs x in
       let lw : length (in_row (λ (y : Piece). y.whole) (xs ++ (x ∷ []))) ≡ length
       (in_row (λ (y : Piece). y.whole) xs) + length x.whole = row-length (λ (y : Piece). y.whole) xs x in
@@ -198,23 +198,23 @@ module _ (xs : List Piece) (x : Piece) (m : Bytes) (target : ℕ) (w : Written) 
         }
 
     kept-aims : (length (in_row written xs) + length (written x) ≤ length m → piece_at (xs ++ (x ∷ [])) target ≡ piece_at xs target)
-        → Aims w.start w.fits
+        → Aims (at_target w.at_target).0 (at_target w.at_target).1
     kept-aims at = record {
       start-goes = λ r. h.start_is (omega arith) ∙ ap (λ (p : Piece). p.start) (sym (at r));
       fits-goes = λ r. h.fits_is (omega arith) ∙ ap (λ (p : Piece). p.fits) (sym (at r));
     }
 
-    pub aims-past : to ≤ target → Aims w.start w.fits
+    pub aims-past : to ≤ target → Aims (at_target w.at_target).0 (at_target w.at_target).1
     aims-past u = kept-aims (λ r. let y = ends_at e ln ke te r in none-at xs x target (omega arith))
 
-    pub aims-before : target < w.end → Aims w.start w.fits
+    pub aims-before : target < w.end → Aims (at_target w.at_target).0 (at_target w.at_target).1
     aims-before u = kept-aims (λ r. let i = h.end_is in at_before xs (x ∷ []) target (omega arith))
 
     -- elsewhere the piece at the target is the one that it was
-    pub aims-kept : (w.end ≤ target → target < to → ⊥) → Aims w.start w.fits
+    pub aims-kept : (w.end ≤ target → target < to → ⊥) → Aims (at_target w.at_target).0 (at_target w.at_target).1
     aims-kept n = by (ltb target w.end) (ltb target to) refl refl
       where
-        by : (a b : Bool) → ltb target w.end ≡ a → ltb target to ≡ b → Aims w.start w.fits
+        by : (a b : Bool) → ltb target w.end ≡ a → ltb target to ≡ b → Aims (at_target w.at_target).0 (at_target w.at_target).1
         by true b i j = aims-before (ltb-true target w.end i)
         by false true i j = absurd (n (ltb-false target w.end i) (ltb-true target to j))
         by false false i j = aims-past (ltb-false target to j)

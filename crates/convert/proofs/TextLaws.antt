@@ -1,7 +1,7 @@
 -- The whole text: its header's field, and the fields of its lines behind that.
-use Rattle.std.specs.Prelude.{Result, Ok, Err}
+use Rattle.std.specs.Prelude.{Result, Ok, Err, None}
 use mathlib.Core.Path.{◌≡◌, refl, sym, ap, ◌∙◌}
-use mathlib.Core.Bool.{Bool, true}
+use mathlib.Core.Bool.{Bool}
 use mathlib.Core.List.{[], ◌∷◌, ◌++◌}
 use Prim.Native.Nat.{ℕ, ◌≤◌, min}
 use native.Mathlib.Omega.{arith}
@@ -16,7 +16,7 @@ use Rattle.convert.specs.Whole.{Pieces, Stands, SoFar, MadeFrom, Makes, written_
 use Rattle.convert.specs.declared.whole.Written.{Written}
 use Rattle.convert.proofs.Laying.{front-put}
 
-nothing_yet : (m : Bytes) (target : ℕ) → SoFar [] m target (written_of 0 0 0 true)
+nothing_yet : (m : Bytes) (target : ℕ) → SoFar [] m target (written_of 0 0 None)
 unfolding in_row piece_at
 nothing_yet m target = record { whole_is = refl; end_is = refl; stands = λ r v. refl; start_is = λ r. refl; fits_is = λ r. refl }
 
@@ -35,7 +35,7 @@ module _ (s out m : Bytes) (q start : ℕ) (fits : Bool) (h : Headed s out m q s
       ap (lib.ListN.take (length (encode_header h.header))) e ∙ front-put out (encode_header h.header) (omega arith)
 
   pub text-made : (now after : Bytes) (target : ℕ) (w : Written) (r : Result Written ℕ)
-      → ((xs : Pieces) (x : Piece) → SoFar xs m target (written_of 0 0 0 true) → x.start ≡ start → x.fits ≡ fits
+      → ((xs : Pieces) (x : Piece) → SoFar xs m target (written_of 0 0 None) → x.start ≡ start → x.fits ≡ fits
       → 19 ≡ min (length x.whole) 65536 → (0 ≤ length m → Stands m 0 x.whole fits)
       → SoFar (xs ++ (x ∷ [])) now target w)
       → ((x : Piece) → SoFar (x ∷ []) now target w

@@ -1,12 +1,13 @@
 -- What the code has written of a text so far, and what it makes of the whole.
-use Rattle.std.specs.Prelude.{◌≡◌, Bool, List, [], ◌∷◌, ℕ, ◌+◌, ◌≤◌, min, Result, Ok, Err, T, ltb, length, take, drop, if◌then◌else◌}
+use Rattle.std.specs.Prelude.{◌≡◌, Bool, true, List, [], ◌∷◌, ℕ, ◌+◌, ◌≤◌, min, Result, Ok, Err, Option, unwrap_or, T, ltb, length, take, drop, if◌then◌else◌}
 use Rattle.rules.specs.Format.{Bytes}
 use Rattle.rules.specs.Encoding.{in_row}
 use Rattle.text.specs.Words.{Read, stop, took}
 use Rattle.text.specs.Lines.{Line, Due, due_after, Started, Text, read_text}
 use Rattle.text.specs.Convert.{Piece, line_fits, pieces, text_pieces, written, piece_at}
 use Rattle.lines.specs.Writing.{due_of, field_before}
-use Rattle.lines.specs.declared.line.Field.{Field}
+use Rattle.scan.specs.declared.step.Built.{Built}
+use Rattle.lines.specs.declared.line.Due as D
 use Rattle.convert.specs.declared.whole.Written.{Written}
 
 abbrev pub Pieces : Type 0
@@ -31,20 +32,24 @@ pub record Laid (s before : Bytes) (from whole : ℕ) (after : Bytes) (g : Read 
   pub kept : take (min from (length before)) after ≡ take (min from (length before)) before
   pub stands : whole ≤ length before → Stands after from (field_before (drop q s) line) fits
 
-abbrev pub Lays : Bytes → Bytes → ℕ → ℕ → Bytes → Read Line → Result Field ℕ → Type 0
-Lays s before from whole after g (Ok x) = Laid s before from whole after g (due_of x.due) x.place x.end x.fits
+abbrev pub Lays : Bytes → Bytes → ℕ → ℕ → Bytes → Read Line → Result (Built D.Due) ℕ → Type 0
+Lays s before from whole after g (Ok x) = Laid s before from whole after g (due_of x.kind) x.place x.end x.fits
 Lays s before from whole after g (Err q) = g ≡ stop (drop q s)
+
+-- of the field at the target, if there is one, the start of its line and whether its numbers fit; where there is none, as `piece_at` has it
+abbrev pub at_target : Option (ℕ × Bool) → ℕ × Bool
+at_target o = unwrap_or o (0, true)
 
 -- the pieces so far stand at the front of a buffer, as far as there is room; and of the piece at the target it is known which it is
 pub record SoFar (xs : List Piece) (now : Bytes) (target : ℕ) (w : Written) : Type 0 where
   pub whole_is : w.whole ≡ min (length (in_row (λ (x : Piece). x.whole) xs)) 65536
   pub end_is : w.end ≡ min (length (in_row written xs)) 65536
   pub stands : length (in_row written xs) ≤ length now → w.whole ≤ length now → take (length (in_row written xs)) now ≡ in_row written xs
-  pub start_is : length (in_row written xs) ≤ length now → w.start ≡ (piece_at xs target).start
-  pub fits_is : length (in_row written xs) ≤ length now → w.fits ≡ (piece_at xs target).fits
+  pub start_is : length (in_row written xs) ≤ length now → (at_target w.at_target).0 ≡ (piece_at xs target).start
+  pub fits_is : length (in_row written xs) ≤ length now → (at_target w.at_target).1 ≡ (piece_at xs target).fits
 
-abbrev pub written_of : ℕ → ℕ → ℕ → Bool → Written
-written_of end whole start fits = record { end = end; whole = whole; start = start; fits = fits }
+abbrev pub written_of : ℕ → ℕ → Option (ℕ × Bool) → Written
+written_of end whole target = record { end = end; whole = whole; at_target = target }
 
 -- the lines behind a first piece are read to the text's end, and all is written
 pub record LinesMade (x : Piece) (after : Bytes) (target : ℕ) (g : Read (List Started)) (w : Written) : Type 0 where

@@ -7,6 +7,7 @@ use lines::fields::put_head;
 use lines::ranges::{number_line, range_line};
 use scan::{TOO_BIG, put_four};
 
+// 01's bounds, `greatest_limit` and `greatest_budget` of the rules; those in `field` are a `Time` and a number of 32 bits.
 const GREATEST_LIMIT: u64 = 1000000;
 
 const GREATEST_BUDGET: u64 = 10000000;

@@ -1,9 +1,9 @@
-// From text to sheet (02, ticket 2).
+// From text to sheet (02, ticket 2). `as` where std has no `From` for it, and `try_from` would give an `Err` that cannot come.
 #![tactic(auto)]
 
 mod head; // limit, budget and label
 mod whole; // all lines
-mod output; // the lent buffer at the end
+mod output; // what the call gives, and a refusal
 
 ghost use Rattle.std.specs.Prelude.{◌≡◌, ℕ, ◌≤◌, ◌<◌, length};
 ghost use Rattle.rules.specs.Demands.{Unchanged};
@@ -12,13 +12,15 @@ ghost use Rattle.text.specs.Convert as Rule;
 ghost use Rattle.refusal.specs.Shape.{rule_of};
 ghost use Rattle.convert.specs.Shape.{conversion_of, told_of, refused_by, Blames, Judges, ConvertsWell, ThreeIn, Leaves};
 
-use crate::output::{fill, refuse};
+use crate::output::refuse;
 use crate::whole::text_at;
+use field::need;
 pub use output::Conversion;
 use reader::read_sheet;
 use refusal::{Fault, Refusal};
-use writing::put_front;
+use writing::{fill, put_front};
 
+// 01's bound, `longest_sheet` of the rules; the one in `reader` is private there, and of 16 bits.
 const LONGEST_SHEET: usize = 16384;
 
 // What the reader refuses is said of the line whose field is at its place, at the start of that line: its own refusal, or 4 where a number
@@ -29,19 +31,23 @@ fn blame(text: &[u8], work: &mut [u8], fault: Fault) -> Fault
         (refused_by room (number (rule_of result.refusal)) result.place) }
 {
     match text_at(text, work, fault.place) {
-        Ok(w) => Fault {
-            refusal: if w.fits {
-                fault.refusal
-            } else {
-                Refusal::OffRange
-            },
-            place: w.start,
-        },
+        Ok(w) => {
+            let (start, fits) = w.at_target.unwrap_or((0, true));
+            Fault {
+                refusal: if fits {
+                    fault.refusal
+                } else {
+                    Refusal::OffRange
+                },
+                place: start,
+            }
+        }
         Err(_) => fault,
     }
 }
 
-// The reader says whether what was written is a sheet. Its bytes are counted where it is one that there is room for.
+// The reader says whether what was written is a sheet. Its bytes are counted where it is one that there is room for. A fault is looked up
+// once more, with the buffer lent: what a closure of `map_err` gives has no name in the proof.
 fn judge(text: &[u8], work: &mut [u8], end: usize, sheet: &mut [u8]) -> Result<usize, Fault>
     requires { (end ≤ length work.old) × (length work.old < 65536) }
     ensures { Judges text.now work.old end (length sheet.old) (told_of result sheet.new) }
@@ -49,17 +55,13 @@ fn judge(text: &[u8], work: &mut [u8], end: usize, sheet: &mut [u8]) -> Result<u
     if let Err(fault) = read_sheet(&work[..end]) {
         return Err(blame(text, work, fault));
     }
-    if sheet.len() < end {
-        return Err(Fault {
-            refusal: Refusal::OutputFull,
-            place: 0,
-        });
-    }
+    need(end <= sheet.len(), Refusal::OutputFull, 0)?;
     fill(sheet, &work[..end]);
     Ok(end)
 }
 
-// The sheet goes through the work buffer, which has room for it, since it may be refused before it is known to fit.
+// The sheet goes through the work buffer, which has room for it, since it may be refused before it is known to fit. `map_err` was tried
+// for the place: what its closure gives has no name in the proof.
 fn convert_through(text: &[u8], work: &mut [u8], sheet: &mut [u8]) -> Result<usize, Fault>
     requires { length work.old ≡ 16384 }
     ensures { told_of result sheet.new ≡ Rule.convert (length sheet.old) text.now }
@@ -73,12 +75,7 @@ fn convert_through(text: &[u8], work: &mut [u8], sheet: &mut [u8]) -> Result<usi
             });
         }
     };
-    if LONGEST_SHEET < w.whole {
-        return Err(Fault {
-            refusal: Refusal::TooLong,
-            place: 0,
-        });
-    }
+    need(w.whole <= LONGEST_SHEET, Refusal::TooLong, 0)?;
     judge(text, work, w.end, sheet)
 }
 

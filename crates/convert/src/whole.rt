@@ -1,25 +1,28 @@
 // The lines of a text one after another, each with its field written behind the last. A field at a target is looked for on the way: the
 // start of its line and whether its numbers fit.
+//
+// The text and a place in it, and the output and a place in it, stay apart, since each call has other places: a struct would be made anew
+// at each.
 ghost use Rattle.std.specs.Prelude.{◌≡◌, [], ◌∷◌, ◌++◌, ◌≤◌, ◌<◌, min, length, drop, if◌then◌else◌};
 ghost use Rattle.std.proofs.lemmas.List.Edits.{sets};
 ghost use Rattle.text.specs.Lines.{locks_due, read_line, read_lines, may_end};
 ghost use Rattle.text.specs.Convert.{Piece};
-ghost use Rattle.lines.specs.Writing.{due_of, OnwardField};
+ghost use Rattle.scan.specs.Writing.{OnwardBuilt};
+ghost use Rattle.lines.specs.Writing.{due_of};
 ghost use Rattle.convert.specs.Whole.{place_in, Pieces, Stands, Lays, SoFar, MadeFrom, Makes, made_place};
 
 use crate::head::head_at;
 use lines::fields::put_none;
-use lines::{Due, Field, line_at};
-use scan::past;
+use lines::{Due, line_at};
+use scan::{Built, past};
 
-// The end of what is written; how many bytes it would be with every number that is too big; of the field at the target the start of
-// its line and whether its numbers fit, 0 and true where there is none.
+// The end of what is written; how many bytes it would be with every number that is too big; and of the field at the target, if there is
+// one, the start of its line and whether its numbers fit.
 #[derive(Clone, Copy)]
 pub(crate) struct Written {
     pub end: usize,
     pub whole: usize,
-    pub start: usize,
-    pub fits: bool,
+    pub at_target: Option<(usize, bool)>,
 }
 
 // Where the next field goes in a buffer of this length: to its end, if the whole of the fields before has no room in it.
@@ -38,10 +41,10 @@ fn line_behind(
     out: &mut [u8],
     from: usize,
     whole: usize,
-) -> Result<Field, usize>
+) -> Result<Built<Due>, usize>
     requires { (p ≤ length s.now) × (length out.old < 65536) }
     ensures lays { Lays s.now out.old from whole out.new (read_line (due_of due) (drop p s.now)) result }
-    ensures onward_field { OnwardField s.now p 0 result }
+    ensures onward_field { OnwardBuilt s.now p 0 result }
 {
     let k = field_place(from, whole, out.len());
     line_at(s, p, due, &mut out[k..], 0)
@@ -81,8 +84,7 @@ fn settled(
         Written {
             end,
             whole,
-            start,
-            fits,
+            at_target: Some((start, fits)),
         }
     } else {
         Written { end, whole, ..w }
@@ -98,6 +100,7 @@ fn is_over(s: &[u8], q: usize, due: Due) -> bool
     due == Due::Statement && s.len() <= q
 }
 
+// It goes on while the text is not over.
 fn lines_at(
     s: &[u8],
     p: usize,
@@ -117,7 +120,7 @@ fn lines_at(
         let x = line_behind(s, q, due, out, w.end, w.whole)?;
         w = settled(out, w, target, q, x.end, x.fits);
         q = x.place;
-        due = x.due;
+        due = x.kind;
     }
     Ok(w)
 }
@@ -135,8 +138,7 @@ pub(crate) fn text_at(s: &[u8], out: &mut [u8], target: usize) -> Result<Written
     let none = Written {
         end: 0,
         whole: 0,
-        start: 0,
-        fits: true,
+        at_target: None,
     };
     let first = settled(out, none, target, h.start, HEADER_BYTES, h.fits);
     lines_at(s, h.place, out, first, target)

@@ -1,14 +1,23 @@
-// What is shared by the programs that compare the library with a corpus: numbers in bytes, counting, reading and printing.
+// What is shared by the programs that compare the library with a corpus: numbers in bytes, counting, reading, and what is planted.
 #![tactic(auto)]
 
-ghost use Rattle.rules.specs.Base.{Free};
-ghost use Rattle.std.specs.Prelude.{◌≡◌, true, false, cond, ◌&&◌, ◌+◌, ◌*◌, ◌<◌, ◌≤◌, ltb, pos, length, drop, replicate};
+ghost use Rattle.corpus.specs.Entries.{ConsumesBelow, GoesThroughAll};
+ghost use Rattle.std.specs.Io.KnownBytes.{Consumes};
+ghost use Rattle.std.specs.Prelude.{◌≡◌, true, false, cond, ◌&&◌, ◌+◌, ◌*◌, ◌<◌, ◌≤◌, ltb, length, take, drop, replicate, slice_range, IfNone, IfSome, is_some};
 
 use files::read_full;
-use std::io::{Print, Read};
+use std::io::Read;
+
+mod plants; // what is planted in an entry
+mod tallies; // how many entries of a kind there are
+
+pub use plants::Planted;
+pub use tallies::Count;
 
 // No count goes beyond this, so that none wraps.
 const MOST: u64 = 1000000;
+
+// ---- numbers
 
 // A number of two bytes, the high one first.
 pub fn two(a: u8, b: u8) -> u64
@@ -18,19 +27,14 @@ pub fn two(a: u8, b: u8) -> u64
     u64::from(u16::from_be_bytes([a, b]))
 }
 
-// The same of four.
-pub fn four(a: u8, b: u8, c: u8, d: u8) -> u64
-    ensures value { result ≡ ((a * 256 + b) * 256 + c) * 256 + d }
-    ensures upper_bound { result < 4294967296 }
+// The bytes from a place on, as many as are wanted.
+pub fn bytes_at<const N: usize>(bytes: &[u8], at: usize) -> [u8; N]
+    requires { at + N ≤ length bytes.now }
+    ensures { result ≡ slice_range bytes.now at (at + N) }
 {
-    u64::from(u32::from_be_bytes([a, b, c, d]))
-}
-
-// The same of eight.
-pub fn eight(a: u8, b: u8, c: u8, d: u8, e: u8, f: u8, g: u8, h: u8) -> u64
-    ensures { result ≡ (((a * 256 + b) * 256 + c) * 256 + d) * 4294967296 + (((e * 256 + f) * 256 + g) * 256 + h) }
-{
-    u64::from_be_bytes([a, b, c, d, e, f, g, h])
+    let mut wanted = [0u8; N];
+    wanted.copy_from_slice(&bytes[at..at + N]);
+    wanted
 }
 
 // One more where the fact holds and the most is not reached.
@@ -40,73 +44,57 @@ pub fn counted(n: u64, fact: bool) -> u64
     if fact && n < MOST { n + 1 } else { n }
 }
 
-// What a work buffer holds before each call.
-pub const FILLED: i32 = 7;
+// ---- buffers
 
-pub fn fill(work: &mut [i32])
-    ensures { work.new ≡ replicate (length work.old) (pos 7) }
-{
-    work.fill(FILLED);
-}
+// What a lent buffer holds before each call.
+pub const FILLED: u8 = 7;
 
-// Whether every number is this one.
+// Whether each item is this value.
 #[tactic(auto, using(crate::proofs::Same::all_same))]
-fn all_numbers(work: &[i32], value: i32) -> bool
+pub fn all_are<T: Copy + PartialEq>(work: &[T], value: T) -> bool
+    requires equal_is_same { (x : T) (y : T) → T.eq x y ≡ true → x ≡ y }
+    requires same_is_equal { (x : T) → T.eq x x ≡ true }
     ensures work_value { result ≡ true → work.now ≡ replicate (length work.now) value }
     ensures value { work.now ≡ replicate (length work.now) value → result ≡ true }
 {
     work.iter().all(|x| *x == value)
 }
 
-pub fn filled(work: &[i32]) -> bool
-    ensures work_value { result ≡ true → work.now ≡ replicate (length work.now) (pos 7) }
-    ensures value { work.now ≡ replicate (length work.now) (pos 7) → result ≡ true }
+// Copies bytes into a buffer of the same length; none, and nothing copied, where the lengths differ.
+pub fn copy_bytes(from: &[u8], to: &mut [u8]) -> Option<()>
+    ensures to_after { is_some result ≡ true → to.new ≡ from.now }
+    ensures value { length from.now ≡ length to.old → is_some result ≡ true }
+    ensures to_unchanged { is_some result ≡ false → to.new ≡ to.old }
 {
-    all_numbers(work, FILLED)
-}
-
-pub fn zeros(work: &[i32]) -> bool
-    ensures work_value { result ≡ true → work.now ≡ replicate (length work.now) (pos 0) }
-    ensures value { work.now ≡ replicate (length work.now) (pos 0) → result ≡ true }
-{
-    all_numbers(work, 0)
-}
-
-// Whether two rows of bytes are the same.
-pub fn same_bytes(a: &[u8], b: &[u8]) -> bool
-    ensures a_value { result ≡ true → a.now ≡ b.now }
-    ensures value { a.now ≡ b.now → result ≡ true }
-{
-    a == b
-}
-
-// Copies bytes into a buffer of the same length; false, and nothing copied, where the lengths differ.
-pub fn copy_bytes(from: &[u8], to: &mut [u8]) -> bool
-    ensures to_after { result ≡ true → to.new ≡ from.now }
-    ensures value { length from.now ≡ length to.old → result ≡ true }
-    ensures to_unchanged { result ≡ false → to.new ≡ to.old }
-{
-    let fits = from.len() == to.len();
-    if fits {
-        to.copy_from_slice(from);
+    if from.len() != to.len() {
+        return None;
     }
-    fits
+    to.copy_from_slice(from);
+    Some(())
 }
 
-// Reads the next n bytes to the front of the buffer; false where there are fewer, or where the buffer is shorter.
-pub fn read_front<R: Read>(from: &mut R, buffer: &mut [u8], n: usize) -> bool
-    ensures n_in_bounds { result ≡ true → n ≤ length buffer.old }
+// ---- reading
+
+// The next N bytes; none where there are fewer.
+pub fn front<const N: usize, R: Read>(from: &mut R) -> Option<[u8; N]>
+    ensures bytes { IfSome result (Consumes (R.remaining from.old) (R.remaining from.new)) }
+    ensures fewer { IfNone result (ConsumesBelow N (R.remaining from.old) (R.remaining from.new)) }
+{
+    let mut bytes = [0u8; N];
+    if read_full(from, &mut bytes) < N {
+        return None;
+    }
+    Some(bytes)
+}
+
+// Reads the next n bytes to the front of the buffer; none where there are fewer, or where the buffer is shorter. It does not lend the
+// front: `buffer_unchanged`, of what stands behind it, is not proved of a buffer that the result borrows from.
+pub fn read_front<R: Read>(from: &mut R, buffer: &mut [u8], n: usize) -> Option<()>
+    ensures n_in_bounds { is_some result ≡ true → n ≤ length buffer.old }
     ensures buffer_unchanged { drop n buffer.new ≡ drop n buffer.old }
+    ensures bytes { is_some result ≡ true → Consumes (R.remaining from.old) (R.remaining from.new) (take n buffer.new) }
 {
-    n <= buffer.len() && read_full(from, &mut buffer[..n]) == n
-}
-
-// A number and a text to standard output. No contract can say what is written there.
-pub fn put(rt: HostRuntime, n: u64, text: &[u8])
-    ensures { text.now ≡ text.now }
-{
-    let _ = rt.print(n);
-    let _ = rt.write_all(text);
+    (n <= buffer.len() && read_full(from, &mut buffer[..n]) == n).then_some(())
 }
 
 // Goes through the entries of a corpus, whose number stands before them, as long as each is there whole. What those before came to goes on
@@ -117,12 +105,10 @@ pub fn over_entries<R: Read, T: Copy, F: FnMut(&mut R, T) -> Option<T>>(
     mut next: F,
 ) -> Option<T>
     requires { F.IsAlwaysCallable next }
-    ensures { Free result }
+    ensures entries { IfSome result (GoesThroughAll F.FnMut R.remaining next from.old start from.new) }
+    ensures no_number { IfNone result (ConsumesBelow 4 (R.remaining from.old) (R.remaining from.new)) }
 {
-    let mut count = [0u8; 4];
-    if read_full(from, &mut count) < 4 {
-        return None;
-    }
+    let count = front(from)?;
     let mut so_far = start;
     for _ in 0..u32::from_be_bytes(count) {
         let Some(now) = next(from, so_far) else {

@@ -6,27 +6,29 @@
 // of the buffer after the call. It prints how many there are of both, and how many of these it noticed.
 #![tactic(auto)]
 
-use corpus::{FILLED, counted, fill, filled, zeros};
-use files::read_full;
+use corpus::{Count, FILLED, all_are, counted, front, read_front};
 use label::{Answer, check};
 use std::io::Print;
 
+// At most so many entries are compared, whatever the count says.
 const MOST_SHEETS: u32 = 65536;
+
+// What each number of the buffer is before a call. By `as`, since a constant calls no `From`.
+const BEFORE: i32 = FILLED as i32;
 
 // One more than a number of two bytes may say: the bytes of a sheet, or the numbers that are lent and the one behind them.
 const ROOM: usize = 65536;
 
-// Which number of the buffer is changed after the call: the first lent one, the last, the one right behind the lent part, or none, of
-// a kind that is not known here.
+// Which number of the buffer is changed after the call: the first lent one, the last, or the one right behind the lent part.
 #[derive(Clone, Copy, PartialEq, Eq)]
 enum Place {
     First,
     Last,
     Behind,
-    Nowhere,
 }
 
-// What is planted in an entry: one of the five numbers is wrong, or a number of the buffer is changed.
+// What is planted in an entry: one of the five numbers is wrong, or a number of the buffer is changed. The error is the number itself,
+// where it stands for nothing.
 #[derive(Clone, Copy, PartialEq, Eq)]
 enum Planted {
     Nothing,
@@ -34,26 +36,29 @@ enum Planted {
     Changed(Place),
 }
 
-impl From<u8> for Planted {
-    fn from(code: u8) -> Planted {
+impl TryFrom<u8> for Planted {
+    type Error = u8;
+
+    fn try_from(code: u8) -> Result<Planted, u8> {
         match code {
-            0 => Planted::Nothing,
-            1 => Planted::Wrong,
-            2 => Planted::Changed(Place::First),
-            3 => Planted::Changed(Place::Last),
-            4 => Planted::Changed(Place::Behind),
-            _ => Planted::Changed(Place::Nowhere),
+            0 => Ok(Planted::Nothing),
+            1 => Ok(Planted::Wrong),
+            2 => Ok(Planted::Changed(Place::First)),
+            3 => Ok(Planted::Changed(Place::Last)),
+            4 => Ok(Planted::Changed(Place::Behind)),
+            _ => Err(code),
         }
     }
 }
 
-// An entry but for its sheet's bytes: how many these are, how many numbers are lent, the answer that is stated, and what is planted.
+// An entry but for its sheet's bytes: how many these are, how many numbers are lent, the answer that is stated, and what is planted, if it
+// is known.
 #[derive(Clone, Copy)]
 struct Front {
     bytes: u16,
     lent: u16,
     stated: Answer,
-    planted: Planted,
+    planted: Option<Planted>,
 }
 
 impl From<[u8; 20]> for Front {
@@ -90,7 +95,7 @@ impl From<[u8; 20]> for Front {
                 low: u32::from_be_bytes([l0, l1, l2, l3]),
                 high: u32::from_be_bytes([h0, h1, h2, h3]),
             },
-            planted: Planted::from(planted),
+            planted: Planted::try_from(planted).ok(),
         }
     }
 }
@@ -102,48 +107,57 @@ struct Verdict {
     unclean: bool,
 }
 
-// What came of the entries: of those that are as they should be, of those with a wrong number, of those with a changed buffer.
+// What came of the entries: how many are as they should be; how many differ, and have an unclean buffer, where that is not planted; those
+// with a wrong number and those with a changed buffer.
 #[derive(Clone, Copy, Default)]
 struct Tally {
     compared: u64,
     differ: u64,
     unclean: u64,
-    wrong: u64,
-    wrong_noticed: u64,
-    changed: u64,
-    changed_noticed: u64,
+    wrong: Count,
+    changed: Count,
 }
 
 impl Tally {
-    fn with(self, v: Verdict, planted: Planted) -> Tally {
-        let wrong = planted == Planted::Wrong;
-        let changed = matches!(planted, Planted::Changed(_));
-        Tally {
-            compared: counted(self.compared, planted == Planted::Nothing),
-            differ: counted(self.differ, v.differs && !wrong),
-            unclean: counted(self.unclean, v.unclean && !changed),
-            wrong: counted(self.wrong, wrong),
-            wrong_noticed: counted(self.wrong_noticed, v.differs && wrong),
-            changed: counted(self.changed, changed),
-            changed_noticed: counted(self.changed_noticed, v.unclean && changed),
+    // One entry more. What is planted by a number that is not known counts as a change.
+    fn with(self, v: Verdict, planted: Option<Planted>) -> Tally {
+        let differ = counted(self.differ, v.differs);
+        let unclean = counted(self.unclean, v.unclean);
+        match planted {
+            Some(Planted::Nothing) => Tally {
+                compared: counted(self.compared, true),
+                differ,
+                unclean,
+                ..self
+            },
+            Some(Planted::Wrong) => Tally {
+                wrong: self.wrong.with(v.differs),
+                unclean,
+                ..self
+            },
+            Some(Planted::Changed(_)) | None => Tally {
+                changed: self.changed.with(v.unclean),
+                differ,
+                ..self
+            },
         }
     }
 }
 
 // Changes the number that the entry asks for, if any; where none is lent there is no first or last one.
-fn change(planted: Planted, lent: &mut [i32], behind: &mut i32) {
+fn change(planted: Option<Planted>, lent: &mut [i32], behind: &mut i32) {
     match planted {
-        Planted::Changed(Place::First) => {
+        Some(Planted::Changed(Place::First)) => {
             if let Some(x) = lent.first_mut() {
-                *x = FILLED;
+                *x = BEFORE;
             }
         }
-        Planted::Changed(Place::Last) => {
+        Some(Planted::Changed(Place::Last)) => {
             if let Some(x) = lent.last_mut() {
-                *x = FILLED;
+                *x = BEFORE;
             }
         }
-        Planted::Changed(Place::Behind) => *behind = 0,
+        Some(Planted::Changed(Place::Behind)) => *behind = 0,
         _ => {}
     }
 }
@@ -153,14 +167,14 @@ fn change(planted: Planted, lent: &mut [i32], behind: &mut i32) {
 fn compare(sheet: &[u8], front: Front, work: &mut [i32; ROOM]) -> Verdict {
     let (lent, rest) = work.split_at_mut(usize::from(front.lent));
     let behind = &mut rest[0];
-    *behind = FILLED;
-    fill(lent);
-    let full = filled(lent);
+    *behind = BEFORE;
+    lent.fill(BEFORE);
+    let full = all_are(lent, BEFORE);
     let answer = check(sheet, lent);
     change(front.planted, lent, behind);
     Verdict {
         differs: answer != front.stated,
-        unclean: !(full && zeros(lent) && *behind == FILLED),
+        unclean: !(full && all_are(lent, 0) && *behind == BEFORE),
     }
 }
 
@@ -169,17 +183,11 @@ fn compare_next(
     rt: HostRuntime,
     bytes: &mut [u8; ROOM],
     work: &mut [i32; ROOM],
-) -> Option<(Verdict, Planted)> {
-    let mut read = [0u8; 20];
-    if read_full(&mut rt.stdin(), &mut read) < read.len() {
-        return None;
-    }
-    let front = Front::from(read);
-    let sheet = &mut bytes[..usize::from(front.bytes)];
-    if read_full(&mut rt.stdin(), sheet) < sheet.len() {
-        return None;
-    }
-    Some((compare(sheet, front, work), front.planted))
+) -> Option<(Verdict, Option<Planted>)> {
+    let f = Front::from(front(&mut rt.stdin())?);
+    let size = usize::from(f.bytes);
+    read_front(&mut rt.stdin(), bytes, size)?;
+    Some((compare(&bytes[..size], f, work), f.planted))
 }
 
 fn compare_all(rt: HostRuntime, count: u32) -> Tally {
@@ -196,18 +204,16 @@ fn compare_all(rt: HostRuntime, count: u32) -> Tally {
 }
 
 fn main(rt: HostRuntime) {
-    let mut count = [0u8; 4];
-    if read_full(&mut rt.stdin(), &mut count) < count.len() {
+    let Some(count) = front(&mut rt.stdin()) else {
         return;
-    }
+    };
     let t = compare_all(rt, u32::from_be_bytes(count));
     let _ = print!(rt;
         "{} sheets compared, {} differ, {} buffers not zero; ",
         t.compared, t.differ, t.unclean
     );
-    let _ = print!(rt;
-        "noticed of what is planted: {} of {} wrong numbers, ",
-        t.wrong_noticed, t.wrong
+    let _ = println!(rt;
+        "noticed of what is planted: {} wrong numbers, {} changed buffers",
+        t.wrong, t.changed
     );
-    let _ = println!(rt; "{} of {} changed buffers", t.changed_noticed, t.changed);
 }

@@ -7,7 +7,7 @@ ghost use Rattle.digits.specs.Digits.{top, cut, with_digit, number_in};
 // Numbers from here on are not told apart: this one stands for them all.
 const TOP: u64 = 65536;
 
-// A number with one digit more.
+// A number with one digit more. `scan` has such a function too, which takes any byte, and has another bound.
 #[tactic(auto, unfolding(crate::specs::Digits::cut))]
 fn with_digit(n: u64, d: u8) -> u64
     requires { (n ≤ top) × (48 ≤ d) × (d ≤ 57) }

@@ -1,5 +1,5 @@
 -- The event of a thread: its owners, the state that it makes, and what the rules' effect is there. Assumes nothing.
-use Rattle.std.specs.Prelude.{if◌then◌else◌, Result, Ok, Err}
+use Rattle.std.specs.Prelude.{if◌then◌else◌, Ok, Err}
 use mathlib.Core.Path.{◌≡◌, refl, sym, ap, subst, ◌∙◌}
 use mathlib.Core.Bool.{true, false}
 use mathlib.Core.Option.{Option, none}
@@ -73,9 +73,6 @@ module _ (s : State) (v : Event) (at : ℕ) (z : Sizes) where
 pub pushed-as : {z : Sizes} {slots : ℕ} {b c : List ℤ} {h k : ℕ} {x y : S.State} → x ≡ y → Pushed z slots b c h k (x ∷ []) → Pushed z slots b c h k (y ∷ [])
 pushed-as {z} {slots} {b} {c} {h} {k} e p = subst (λ (w : S.State). Pushed z slots b c h k (w ∷ [])) e p
 
-pub acts-as : (z : Sizes) (slots : ℕ) (b : List ℤ) {c d : List ℤ} (h : ℕ) (r : Result ℕ Refusal) (x : S.Next) → c ≡ d → Acts z slots b d h r x → Acts z slots b c h r x
-acts-as z slots b h r x e p = subst (λ (l : List ℤ). Acts z slots b l h r x) (sym e) p
-
 -- what a move wrote into a slot is the state in which the mover stands there, with registers by its number, a variable or an owner
 module _ {z : Sizes} {slots : ℕ} {b c : List ℤ} {h k : ℕ} (new : List ℤ) {m : Move} (s : State) (v : Event) (at : ℕ) (is : m ≡ move_to v at)
     (p : Pushed z slots b c h k (state_of z (decode new) ∷ [])) where
@@ -130,22 +127,22 @@ module _ (z : Sizes) (slots : ℕ) (b : List ℤ) (h : ℕ) (s : State) (v : Eve
   -- an assignment of a, and a branch on a
   module _ (r : ℕ) (a : P.Arith) where
     pub assign-faults : (q : Refusal) → fault (rule_of q) ≡ evaluate a (regs_of v.registers x.regs)
-        → Acts z slots b b h (Err q) (effect (state_of z s) v.thread (thread_of v.registers x) v.from.0 v.to.0 (P.assign r a))
+        → Acts z slots b b h h (Err q) (effect (state_of z s) v.thread (thread_of v.registers x) v.from.0 v.to.0 (P.assign r a))
     unfolding effect from_value
-    assign-faults q e = rw (sym e) (ap Err (sym (refusal-of-rule q)), refl)
+    assign-faults q e = rw (sym e) (ap Err (sym (refusal-of-rule q)), (refl, refl))
 
     pub assigns : (c : List ℤ) (k : ℕ) (i : Span) → get_or z.regs v.thread 0 ≡ v.registers
         → value (interval_of i) ≡ evaluate a (regs_of v.registers x.regs)
         → Pushed z slots b c h k (moved_by z s v (suc x.at) (set (regs_of (get_or z.regs v.thread 0) x.regs) r (interval_of i)) ∷ [])
-        → Acts z slots b c h (Ok k) (effect (state_of z s) v.thread (thread_of v.registers x) v.from.0 v.to.0 (P.assign r a))
+        → Acts z slots b c h k (Ok tt) (effect (state_of z s) v.thread (thread_of v.registers x) v.from.0 v.to.0 (P.assign r a))
     unfolding effect from_value
-    assigns c k i n e p = rw (sym e) (k, refl, rw n at p)
+    assigns c k i n e p = rw (sym e) (refl, rw n at p)
 
   module _ (to : ℕ) (a : P.Condition) where
     pub branch-faults : (q : Refusal) → fault (rule_of q) ≡ all_parts a (regs_of v.registers x.regs)
-        → Acts z slots b b h (Err q) (effect (state_of z s) v.thread (thread_of v.registers x) v.from.0 v.to.0 (P.branch to a))
+        → Acts z slots b b h h (Err q) (effect (state_of z s) v.thread (thread_of v.registers x) v.from.0 v.to.0 (P.branch to a))
     unfolding effect branches
-    branch-faults q e = rw (sym e) (ap Err (sym (refusal-of-rule q)), refl)
+    branch-faults q e = rw (sym e) (ap Err (sym (refusal-of-rule q)), (refl, refl))
 
     pub branches-on : (c d : List ℤ) (k m on : ℕ) (taken passed : ℕ → Option Regs) → get_or z.regs v.thread 0 ≡ v.registers → on ≡ suc x.at
         → value tt ≡ all_parts a (regs_of v.registers x.regs)
@@ -153,7 +150,7 @@ module _ (z : Sizes) (slots : ℕ) (b : List ℤ) (h : ℕ) (s : State) (v : Eve
         → passed v.registers ≡ narrow_no a (regs_of v.registers x.regs)
         → Pushed z slots b c h k (unless_empty (λ rs. moved_by z s v on rs) (passed (get_or z.regs v.thread 0)))
         → Pushed z slots c d k m (unless_empty (λ rs. moved_by z s v to rs) (taken (get_or z.regs v.thread 0)))
-        → Acts z slots b d h (Ok m) (effect (state_of z s) v.thread (thread_of v.registers x) v.from.0 v.to.0 (P.branch to a))
+        → Acts z slots b d h m (Ok tt) (effect (state_of z s) v.thread (thread_of v.registers x) v.from.0 v.to.0 (P.branch to a))
     unfolding effect branches
     branches-on c d k m on taken passed n eo e ey en p q =
         let p' : Pushed z slots b c h k (unless_empty (λ rs. moved_by z s v (suc x.at) rs) (narrow_no a (regs_of v.registers x.regs))) =
@@ -161,4 +158,4 @@ module _ (z : Sizes) (slots : ℕ) (b : List ℤ) (h : ℕ) (s : State) (v : Eve
         (subst (λ (i : ℕ). Pushed z slots b c h k (unless_empty (λ rs. moved_by z s v i rs) (passed (get_or z.regs v.thread 0)))) eo p) in
         let q' : Pushed z slots c d k m (unless_empty (λ rs. moved_by z s v to rs) (narrow_yes a (regs_of v.registers x.regs))) =
         subst (λ (o : Option Regs). Pushed z slots c d k m (unless_empty (λ rs. moved_by z s v to rs) o)) (ap taken n ∙ ey) q in
-        rw (sym e) (m, refl, then-pushed p' q')
+        rw (sym e) (refl, then-pushed p' q')

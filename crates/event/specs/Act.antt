@@ -1,5 +1,5 @@
 -- What the event of one thread gives.
-use Rattle.std.specs.Prelude.{◌≡◌, List, ℕ, ◌+◌, ◌≤◌, ◌<◌, get_or, ℤ, Result, Ok, Err}
+use Rattle.std.specs.Prelude.{◌≡◌, List, ℕ, ◌<◌, get_or, ℤ, Result, Ok, Err}
 use Rattle.rules.specs.Constants.{half32, most_threads}
 use Rattle.rules.specs.Search as S
 use Rattle.rules.specs.Program.{Action, Statement}
@@ -18,7 +18,7 @@ use Rattle.state.specs.declared.moves.Move.{Move}
 use Rattle.state.specs.Access.{thread_at}
 use Rattle.reader.specs.Facts.{program_in}
 use Rattle.event.specs.Fetch.{names_of, Fetches}
-use Rattle.event.specs.Push.{Room, Pushed}
+use Rattle.event.specs.Push.{Pushed}
 use Rattle.event.specs.declared.fetch.Fetched.{Fetched}
 use Rattle.event.specs.declared.act.Event.{Event}
 
@@ -28,16 +28,10 @@ pub record Ticks (v : Event) : Type 0 where
   pub from_small : v.from.0 < half32
   pub to_small : v.to.0 < half32
 
--- what a new state on the stack asks
-pub record Asks (v : Event) (b : List ℤ) (height slots : ℕ) : Type 0 where
-  pub ticks : Ticks v
-  pub room : Room slots b
-  pub high : height ≤ slots + 1
-
--- a refusal, and the buffer as it was, or the new height, and the states on the stack
-abbrev pub Acts : Sizes → ℕ → List ℤ → List ℤ → ℕ → Result ℕ Refusal → S.Next → Type 0
-Acts z slots b c h r (unread q) = (r ≡ Err (refusal_of q)) × (c ≡ b)
-Acts z slots b c h r (states xs) = (k : ℕ) × (r ≡ Ok k) × Pushed z slots b c h k xs
+-- a refusal, and the buffer and the height as they were, or the states on the stack, which is k high now
+abbrev pub Acts : Sizes → ℕ → List ℤ → List ℤ → ℕ → ℕ → Result (Unit {0}) Refusal → S.Next → Type 0
+Acts z slots b c h k r (unread q) = (r ≡ Err (refusal_of q)) × ((c ≡ b) × (k ≡ h))
+Acts z slots b c h k r (states xs) = (r ≡ Ok tt) × Pushed z slots b c h k xs
 
 -- the event's thread comes to a statement
 abbrev pub move_to : Event → ℕ → Move

@@ -14,11 +14,11 @@ names_of g t = names_in (length g.vars) g.locks (thread_in g t)
 -- f is the statement x, at which a thread with number `at` stands
 pub record Fetches (s : Bytes) (ns : Names) (at : ℕ) (x : Statement) (f : Fetched) : Type 0 where
   pub place : f.place ≡ x.place
-  pub least : f.least.0 ≡ x.least
-  pub greatest : f.greatest.0 ≡ x.greatest
-  pub least_small : f.least.0 < 65536
-  pub greatest_small : f.greatest.0 < 65536
-  pub action : f.action ≡ action_of (x.place + 9) (body_end s x.place) x.action
+  pub least : f.statement.least.0 ≡ x.least
+  pub greatest : f.statement.greatest.0 ≡ x.greatest
+  pub least_small : f.statement.least.0 < 65536
+  pub greatest_small : f.statement.greatest.0 < 65536
+  pub action : f.statement.action ≡ action_of (x.place + 9) (body_end s x.place) x.action
   pub named : Named ns x.action
   pub targets : Targets most_statements x.action
   pub expresses : Expresses s ns.regs (x.place + 9) (body_end s x.place) x.action

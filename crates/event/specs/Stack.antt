@@ -1,5 +1,5 @@
 -- What an event does to the stack of states.
-use Rattle.std.specs.Prelude.{◌≡◌, List, [], ◌∷◌, ℕ, ℤ, Result, Ok, Err}
+use Rattle.std.specs.Prelude.{◌≡◌, List, [], ◌∷◌, ℤ, Result}
 use Rattle.rules.specs.Search as S
 use Rattle.refusal.specs.declared.Refusal.{Refusal}
 use Rattle.state.specs.Cells.{decode}
@@ -20,10 +20,6 @@ Grows z a b xs = Pushed z a.slots a.work.now b.work.now a.height b.height xs
 abbrev pub PutOnTop : (List ℤ → List ℤ → Type 0) → Stack → Stack → Type 0
 PutOnTop wrote a b = (old new : List ℤ) × wrote old new × ((z : Sizes) → Grows z a b (state_of z (decode new) ∷ []))
 
-abbrev pub height_after : Result (Unit {0}) Refusal → Stack → Result ℕ Refusal
-height_after (Ok u) b = Ok b.height
-height_after (Err q) b = Err q
-
--- a refusal, and the buffer as it was, or the states on the stack
+-- a refusal, and the numbers and the height as they were, or the states on the stack
 abbrev pub Leaves : Sizes → Stack → Stack → Result (Unit {0}) Refusal → S.Next → Type 0
-Leaves z a b r x = Acts z a.slots a.work.now b.work.now a.height (height_after r b) x
+Leaves z a b r x = Acts z a.slots a.work.now b.work.now a.height b.height r x

@@ -4,15 +4,13 @@ ghost use Rattle.rules.specs.Constants.{deepest, most_threads, most_statements, 
 ghost use Rattle.rules.specs.Program as P;
 ghost use Rattle.rules.specs.Program.{Statement};
 ghost use Rattle.rules.specs.Format.{got, read_arith};
-ghost use Rattle.rules.specs.Search.{effect};
 ghost use Rattle.interval.specs.Shape.{interval_of};
 ghost use Rattle.expression.specs.Evaluation.{regs_of};
-ghost use Rattle.state.specs.Shape.{Sizes, thread_of, sizes_of, state_of};
-ghost use Rattle.state.specs.Access.{thread_at};
+ghost use Rattle.state.specs.Shape.{Sizes, sizes_of};
 ghost use Rattle.state.specs.Cells.{decode};
 ghost use Rattle.reader.specs.Facts.{program_in};
-ghost use Rattle.event.specs.Fetch.{names_of, Fetches, OfProgram};
-ghost use Rattle.event.specs.Act.{Ticks, Asks, Acts, move_to, moved_by, mover, effect_of, FetchedBy};
+ghost use Rattle.event.specs.Fetch.{OfProgram};
+ghost use Rattle.event.specs.Act.{Ticks, move_to, moved_by, mover, effect_of, FetchedBy};
 ghost use Rattle.event.specs.Stack.{SameStack, Grows, Leaves};
 
 use crate::branching::branch;
@@ -28,7 +26,8 @@ use state::{
     registers_of, variable_of,
 };
 
-// An event of thread t, which has n registers, between two ticks.
+// An event of thread t, which has n registers, between two ticks. What Ticks says of it is a clause and no ghost field: events and the
+// moves that they make are told by equations of whole values, and those would have to carry the proofs.
 #[derive(Clone, Copy)]
 pub struct Event {
     pub thread: usize,
@@ -61,6 +60,9 @@ impl Event {
         self.move_to(next(at_of(cells, self.thread)))
     }
 }
+
+// In the clauses below, `live` says that the thread stands at a statement: that is of the state's numbers and the event together, and so
+// no fact of either's type.
 
 fn skip(cells: &[i32; NUMBERS_PER_STATE], v: Event, stack: &mut Stack)
     requires ticks { Ticks v }
@@ -142,7 +144,7 @@ fn load(cells: &[i32; NUMBERS_PER_STATE], v: Event, r: usize, k: usize, stack: &
 }
 
 // The event, on the stack.
-fn act_on(
+pub fn act(
     sheet: &[u8],
     cells: &[i32; NUMBERS_PER_STATE],
     v: Event,
@@ -157,7 +159,7 @@ fn act_on(
         → Leaves (sizes_of (program_in sheet.now)) stack.old stack.new result
         (effect_of (sizes_of (program_in sheet.now)) (decode cells.now) v v.registers x.action) }
 {
-    match f.action {
+    match f.statement.action {
         Action::Halt => {}
         Action::Skip => skip(cells, v, stack),
         Action::Assign { register, at, end } => {
@@ -170,29 +172,4 @@ fn act_on(
         Action::Lock(l) => lock(cells, v, l, stack),
     }
     Ok(())
-}
-
-// The event on the stack whose buffer, height and number of slots the search keeps apart. The new height.
-pub fn act(
-    sheet: &[u8],
-    cells: &[i32; NUMBERS_PER_STATE],
-    v: Event,
-    f: Fetched,
-    work: &mut [i32],
-    height: usize,
-    slots: usize,
-) -> Result<usize, Refusal>
-    requires { Asks v work.old height slots × (OfProgram (program_in sheet.now) v.thread v.registers
-        × ((x : Statement) × Fetches sheet.now (names_of (program_in sheet.now) v.thread) (thread_at (decode cells.now) v.thread).at x f)) }
-    ensures { (x : Statement) → Fetches sheet.now (names_of (program_in sheet.now) v.thread) (thread_at (decode cells.now) v.thread).at x f
-        → Acts (sizes_of (program_in sheet.now)) slots work.old work.new height result
-        (effect (state_of (sizes_of (program_in sheet.now)) (decode cells.now)) v.thread (thread_of v.registers (thread_at (decode cells.now) v.thread)) v.from.0 v.to.0 x.action) }
-{
-    let mut stack = Stack {
-        work,
-        height,
-        slots,
-    };
-    act_on(sheet, cells, v, f, &mut stack)?;
-    Ok(stack.height)
 }

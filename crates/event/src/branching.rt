@@ -37,7 +37,8 @@ fn way(
     }
 }
 
-// The no state first, so that the yes state stands above it.
+// The no state first, so that the yes state stands above it. The target goes by `as`: std has no `From` for this, and `try_from` would
+// give an `Err` that cannot come.
 pub(crate) fn branch(
     sheet: &[u8],
     cells: &[i32; NUMBERS_PER_STATE],
@@ -59,7 +60,8 @@ pub(crate) fn branch(
         (effect_of z (decode cells.now) v v.registers (P.branch target a)) }
 {
     let regs = registers_of(cells, v.thread);
-    let Branch { yes, no } = branch_on(sheet, at, end, v.registers, regs)?;
+    let Branch { check, yes, no } = branch_on(sheet, at, end, v.registers, regs);
+    check?;
     way(cells, v, next(at_of(cells, v.thread)), no, stack);
     way(cells, v, target as u8, yes, stack);
     Ok(())

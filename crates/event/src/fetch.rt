@@ -1,22 +1,23 @@
 // The statement at which a thread stands.
 ghost use Rattle.std.specs.Prelude.{◌≡◌, ℕ, suc, ◌+◌, ◌≤◌, ◌<◌, length};
 ghost use Rattle.rules.specs.Constants.{most_statements};
-ghost use Rattle.rules.specs.Program.{Statement, no_statement};
+ghost use Rattle.rules.specs.Program as P;
+ghost use Rattle.rules.specs.Program.{no_statement};
 ghost use Rattle.rules.specs.Format.{Bytes, Names};
 ghost use Rattle.reader.specs.Facts.{program_in, statement_in, StatementFacts, Targets};
 ghost use Rattle.event.specs.Plan.{Ready};
 ghost use Rattle.event.specs.Fetch.{names_of, Fetches};
 
 use crate::plan::Plan;
+use field::decoding::Statement;
 use field::{Action, Time, statement_at};
 use reader::{MOST_PLACES, MOST_STATEMENTS};
 
+// A statement, and the place in the sheet where it stands.
 #[derive(Clone, Copy)]
 pub struct Fetched {
     pub place: usize,
-    pub least: Time,
-    pub greatest: Time,
-    pub action: Action,
+    pub statement: Statement,
 }
 
 // Where the number names no statement, there is none to end: it is a halt.
@@ -25,24 +26,21 @@ fn none() -> Fetched
 {
     Fetched {
         place: 0,
-        least: Time(0),
-        greatest: Time(0),
-        action: Action::Halt,
+        statement: Statement {
+            least: Time(0),
+            greatest: Time(0),
+            action: Action::Halt,
+        },
     }
 }
 
 fn fetch_at(sheet: &[u8], place: usize) -> Fetched
     requires { place + 8 ≤ length sheet.now }
-    ensures { (ns : Names) (at : ℕ) (x : Statement) → place ≡ x.place → at < most_statements → StatementFacts ns sheet.now x
+    ensures { (ns : Names) (at : ℕ) (x : P.Statement) → place ≡ x.place → at < most_statements → StatementFacts ns sheet.now x
         → Targets most_statements x.action → Fetches sheet.now ns at x result }
 {
-    let x = statement_at(sheet, place);
-    Fetched {
-        place,
-        least: x.least,
-        greatest: x.greatest,
-        action: x.action,
-    }
+    let statement = statement_at(sheet, place);
+    Fetched { place, statement }
 }
 
 // Statement `at` of thread t.

@@ -4,7 +4,7 @@
 
 pub mod plan; // what a search keeps of the index
 pub mod fetch; // the statement at which a thread stands
-mod stack; // the stack of states, and a new one on top of it
+pub mod stack; // the stack of states, and a new one on top of it
 pub mod act; // the event of one thread
 mod branching; // the event at an if
 pub mod locking; // the event at a lock or an unlock

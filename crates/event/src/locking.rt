@@ -1,4 +1,5 @@
-// The event of a thread at a lock or an unlock. A lock's cell is 0 for none, t + 1 for the thread t that owns it.
+// The event of a thread at a lock or an unlock. A lock's owner is 0 for none, t + 1 for thread t, as a slot has it: a number and no
+// `Option`.
 ghost use Rattle.std.specs.Prelude.{◌≡◌, suc, ◌<◌, get_or};
 ghost use Rattle.rules.specs.Constants.{most_threads, most_statements, most_locks};
 ghost use Rattle.rules.specs.Program as P;
@@ -12,7 +13,7 @@ use crate::act::Event;
 use crate::stack::Stack;
 use state::{NUMBERS_PER_STATE, at_of, owner_of, put_moved, put_owner};
 
-// How a lock's cell names thread t.
+// How a lock's cell names thread t. By `as`: std has no `From` for this, and `try_from` would give an `Err` that cannot come.
 pub fn owner(t: usize) -> u8
     requires { t < most_threads }
     ensures { result ≡ suc t }

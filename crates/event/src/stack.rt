@@ -9,7 +9,7 @@ use state::NUMBERS_PER_STATE;
 // How many states the stack holds, and for how many the buffer has room. The height counts up to one more than there are slots, so that
 // the end of a turn can tell.
 #[derive(Drop)]
-pub(crate) struct Stack<'a> {
+pub struct Stack<'a> {
     pub work: &'a mut [i32],
     pub height: usize,
     pub slots: usize,

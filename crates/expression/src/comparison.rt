@@ -14,13 +14,21 @@ use crate::walk::Walk;
 use interval::Span;
 use refusal::Refusal;
 
+// A side of a comparison: the number of its register, where it is one register, and none where it is any other expression; and the
+// interval of its values.
+#[derive(Clone, Copy)]
+pub(crate) struct Side {
+    pub register: Option<usize>,
+    pub span: Span,
+}
+
 // Register i becomes k: a register narrowed to nothing empties the state.
 #[tactic(auto, using(crate::proofs::comparison::Laws::regs_set), unfolding(rules::specs::Expression::keep))]
 fn keep_at(mut regs: [Span; 8], i: usize, k: Span) -> Option<[Span; 8]>
     requires { i < most_registers }
     ensures { (n : ℕ) → i < n → narrowed_of n result ≡ keep (regs_of n regs) i (interval_of k) }
 {
-    if interval::at_most(k.low, k.high) {
+    if k.low <= k.high {
         regs[i] = k;
         Some(regs)
     } else {
@@ -28,18 +36,17 @@ fn keep_at(mut regs: [Span; 8], i: usize, k: Span) -> Option<[Span; 8]>
     }
 }
 
+#[tactic(auto, using(interval::proofs::Order::equal_is))]
 fn same_single_value(i: Span, j: Span) -> bool
     ensures { result ≡ (eq_z i.low.0 i.high.0 && (eq_z j.low.0 j.high.0 && eq_z i.low.0 j.low.0)) }
 {
-    interval::equal(i.low, i.high)
-        && interval::equal(j.low, j.high)
-        && interval::equal(i.low, j.low)
+    i.low == i.high && j.low == j.high && i.low == j.low
 }
 
 impl Walk<'_> {
-    // A side of a comparison: the number of its register, where it is one register, and none where it is any other expression.
+    // The register of the side that stands at a place, if it is one.
     #[tactic(auto, unfolding(crate::specs::Comparison::side_at, crate::specs::Comparison::register_at))]
-    pub(crate) fn side_at(&self, at: usize) -> Option<usize>
+    pub(crate) fn register_at(&self, at: usize) -> Option<usize>
         ensures { result ≡ side_at self.now.s.now self.now.end at }
     {
         match arith_at(self.s, at, self.end)? {
@@ -52,15 +59,15 @@ impl Walk<'_> {
     #[tactic(auto, using(crate::proofs::evaluation::Laws::regs_get), unfolding(rules::specs::Expression::on_register))]
     fn cut_side<F: Fn(Span) -> Span>(
         &self,
-        side: Option<usize>,
+        side: Side,
         cut: F,
         h: Option<[Span; 8]>,
     ) -> Option<[Span; 8]>
         requires { F.IsAlwaysCallable cut }
         ensures { (f : Interval → Interval) → ((k r : Span) → F.post cut k r → interval_of r ≡ f (interval_of k))
-            → narrowed_of self.now.n result ≡ on_register f (side_of self.now.n side) (narrowed_of self.now.n h) }
+            → narrowed_of self.now.n result ≡ on_register f (side_of self.now.n side.register) (narrowed_of self.now.n h) }
     {
-        match side {
+        match side.register {
             Some(i) if i < self.n => {
                 let regs = h?;
                 keep_at(regs, i, cut(regs[i]))
@@ -69,17 +76,18 @@ impl Walk<'_> {
         }
     }
 
-    // ---- the rules of equal and less; i and j are the intervals of the sides l and m
+    // ---- the rules of equal and less
 
     #[tactic(auto, unfolding(rules::specs::Expression::equal_yes))]
-    fn equal_yes(&self, l: Option<usize>, m: Option<usize>, i: Span, j: Span) -> Option<[Span; 8]>
+    fn equal_yes(&self, left: Side, right: Side) -> Option<[Span; 8]>
         ensures { narrowed_of self.now.n result
-            ≡ equal_yes (side_of self.now.n l) (side_of self.now.n m) (registers_in self.now) (interval_of i) (interval_of j) }
+            ≡ equal_yes (side_of self.now.n left.register) (side_of self.now.n right.register) (registers_in self.now)
+            (interval_of left.span) (interval_of right.span) }
     {
-        let both = interval::meet(i, j);
-        if interval::at_most(both.low, both.high) {
-            let left = self.cut_side(l, |k| interval::meet(k, both), Some(self.regs));
-            self.cut_side(m, |k| interval::meet(k, both), left)
+        let both = interval::meet(left.span, right.span);
+        if both.low <= both.high {
+            let regs = self.cut_side(left, |k| interval::meet(k, both), Some(self.regs));
+            self.cut_side(right, |k| interval::meet(k, both), regs)
         } else {
             None
         }
@@ -97,55 +105,61 @@ impl Walk<'_> {
     }
 
     #[tactic(auto, unfolding(rules::specs::Expression::less_yes))]
-    fn less_yes(&self, l: Option<usize>, m: Option<usize>, i: Span, j: Span) -> Option<[Span; 8]>
+    fn less_yes(&self, left: Side, right: Side) -> Option<[Span; 8]>
         ensures { narrowed_of self.now.n result
-            ≡ less_yes (side_of self.now.n l) (side_of self.now.n m) (registers_in self.now) (interval_of i) (interval_of j) }
+            ≡ less_yes (side_of self.now.n left.register) (side_of self.now.n right.register) (registers_in self.now)
+            (interval_of left.span) (interval_of right.span) }
     {
-        if interval::below(i.low, j.high) {
-            let most = interval::previous(j.high);
-            let least = interval::next(i.low);
-            let left = self.cut_side(l, |k| interval::cut_above(most, k), Some(self.regs));
-            self.cut_side(m, |k| interval::cut_below(least, k), left)
+        if left.span.low < right.span.high {
+            let most = interval::previous(right.span.high);
+            let least = interval::next(left.span.low);
+            let regs = self.cut_side(left, |k| interval::cut_above(most, k), Some(self.regs));
+            self.cut_side(right, |k| interval::cut_below(least, k), regs)
         } else {
             None
         }
     }
 
     #[tactic(auto, unfolding(rules::specs::Expression::less_no))]
-    fn less_no(&self, l: Option<usize>, m: Option<usize>, i: Span, j: Span) -> Option<[Span; 8]>
+    fn less_no(&self, left: Side, right: Side) -> Option<[Span; 8]>
         ensures { narrowed_of self.now.n result
-            ≡ less_no (side_of self.now.n l) (side_of self.now.n m) (registers_in self.now) (interval_of i) (interval_of j) }
+            ≡ less_no (side_of self.now.n left.register) (side_of self.now.n right.register) (registers_in self.now)
+            (interval_of left.span) (interval_of right.span) }
     {
-        if interval::at_most(j.low, i.high) {
-            let left = self.cut_side(l, |k| interval::cut_below(j.low, k), Some(self.regs));
-            self.cut_side(m, |k| interval::cut_above(i.high, k), left)
+        if right.span.low <= left.span.high {
+            let regs = self.cut_side(
+                left,
+                |k| interval::cut_below(right.span.low, k),
+                Some(self.regs),
+            );
+            self.cut_side(right, |k| interval::cut_above(left.span.high, k), regs)
         } else {
             None
         }
     }
 
-    // The rule of yes where wanted, of no where not.
+    // The rule of yes where wanted, of no where not: relation and way choose it at once, as `comparison_rule` does, and closures in
+    // place of `wanted` would write this match twice.
     pub(crate) fn compare_spans(
         &self,
         wanted: bool,
         o: Relation,
-        l: Option<usize>,
-        m: Option<usize>,
-        i: Span,
-        j: Span,
+        left: Side,
+        right: Side,
     ) -> Option<[Span; 8]>
         ensures { narrowed_of self.now.n result
-            ≡ comparison_rule wanted o (side_of self.now.n l) (side_of self.now.n m) (registers_in self.now)
-            (interval_of i) (interval_of j) }
+            ≡ comparison_rule wanted o (side_of self.now.n left.register) (side_of self.now.n right.register)
+            (registers_in self.now) (interval_of left.span) (interval_of right.span) }
     {
         match (o, wanted) {
-            (Relation::Equal, true) => self.equal_yes(l, m, i, j),
-            (Relation::Equal, false) => self.equal_no(i, j),
-            (Relation::Less, true) => self.less_yes(l, m, i, j),
-            (Relation::Less, false) => self.less_no(l, m, i, j),
+            (Relation::Equal, true) => self.equal_yes(left, right),
+            (Relation::Equal, false) => self.equal_no(left.span, right.span),
+            (Relation::Less, true) => self.less_yes(left, right),
+            (Relation::Less, false) => self.less_no(left, right),
         }
     }
 
+    // The same of sides whose registers are l and m, where both have a reading.
     #[tactic(auto, unfolding(rules::specs::Expression::compared))]
     pub(crate) fn compare_readings(
         &self,
@@ -160,6 +174,14 @@ impl Walk<'_> {
             ≡ compared (comparison_rule wanted o (side_of self.now.n l) (side_of self.now.n m) (registers_in self.now))
             (result_of x) (result_of y) }
     {
-        self.compare_spans(wanted, o, l, m, x.ok()?, y.ok()?)
+        let left = Side {
+            register: l,
+            span: x.ok()?,
+        };
+        let right = Side {
+            register: m,
+            span: y.ok()?,
+        };
+        self.compare_spans(wanted, o, left, right)
     }
 }

@@ -1,6 +1,7 @@
 // Evaluation over intervals, along the bytes: the same recursion as reading. Each function gives the span or the fault of the
 // arithmetic, and the place behind the expression; none where no expression stands, of which `read_arith` has the refusal. A fault
 // of the arithmetic does not end the walk, so the place behind the expression is known in every case.
+// Evaluating and reading are two walks, each with a type of its own to give and to carry: one visitor would hide the rule of each.
 ghost use Rattle.std.specs.Prelude.{◌≡◌, ◌≤◌};
 ghost use Rattle.rules.specs.Format.{read_constant, read_register};
 ghost use Rattle.expression.specs.Walk.{registers_in, arith_in};

@@ -1,4 +1,4 @@
-// What the code at a place says: the only functions that know 01's codes.
+// What the code at a place says. The same codes are written by `scan` and `notation`.
 ghost use Rattle.std.specs.Prelude.{◌≡◌, ◌<◌, ◌≤◌, length, OnSome};
 ghost use Rattle.rules.specs.Format.{arith_kind, arith_at, condition_kind, condition_at};
 ghost use Rattle.expression.specs.Kind.{arith_kind_of, condition_kind_of};
@@ -12,6 +12,7 @@ pub enum ArithKind {
     Operation(Operator),
 }
 
+// An `Option`, as is a condition's: evaluation ends at None without a refusal, and reading makes BadExpression of it.
 #[tactic(auto, unfolding(rules::specs::Format::arith_kind))]
 fn arith_kind(code: u8) -> Option<ArithKind>
     ensures { arith_kind_of result ≡ arith_kind code }
@@ -52,6 +53,7 @@ pub enum ConditionKind {
     Comparison(Relation),
 }
 
+// An `Option` for the same reason as `arith_kind`.
 #[tactic(auto, unfolding(rules::specs::Format::condition_kind))]
 fn condition_kind(code: u8) -> Option<ConditionKind>
     ensures { condition_kind_of result ≡ condition_kind code }

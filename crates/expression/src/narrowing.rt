@@ -32,7 +32,7 @@ fn join_both(a: Option<[Span; 8]>, b: Option<[Span; 8]>) -> Option<[Span; 8]>
 }
 
 impl Walk<'_> {
-    // A comparison whose left side stands at a place: by yes where wanted, by no where not.
+    // A comparison whose left side stands at a place: by yes where wanted, by no where not (why a flag: `compare_spans`).
     #[tactic(auto, using(crate::proofs::narrowing::Laws::comparison_is))]
     fn narrow_comparison(
         &self,
@@ -45,8 +45,8 @@ impl Walk<'_> {
     {
         let (x, q) = self.evaluate(at, depth)?;
         let (y, r) = self.evaluate(q, depth)?;
-        let l = self.side_at(at);
-        let m = self.side_at(q);
+        let l = self.register_at(at);
+        let m = self.register_at(q);
         Some((self.compare_readings(wanted, o, l, m, x, y), r))
     }
 

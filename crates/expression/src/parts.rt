@@ -1,5 +1,7 @@
 // Every part of a condition worked out on the registers before narrowing, both sides of an "and" always: the first fault
 // from the left, or none.
+// Working out the parts, narrowing by yes and by no, and reading are four walks, each with a type of its own to give and to carry: one
+// visitor would hide the rule of each.
 ghost use Rattle.std.specs.Prelude.{◌≡◌};
 ghost use Rattle.expression.specs.Walk.{registers_in, condition_in, sides_in};
 ghost use Rattle.expression.specs.Parts.{check_of, checked_of, parts_in, first_fault};
@@ -10,7 +12,7 @@ use refusal::Refusal;
 
 // The first fault of two results, from the left.
 #[tactic(auto, unfolding(rules::specs::Refusal::on_both))]
-fn first_fault<A: Copy, B: Copy>(
+pub(crate) fn first_fault<A: Copy, B: Copy>(
     x: Result<A, Refusal>,
     y: Result<B, Refusal>,
 ) -> Result<(), Refusal>

@@ -4,7 +4,8 @@ ghost use Rattle.rules.specs.Constants.{most_registers};
 
 use interval::Span;
 
-// The sheet's bytes, the end of the body, and the registers: the first n of the eight are the thread's.
+// The sheet's bytes, the end of the body, and the registers: the first n of the eight are the thread's. (Memory is fixed, with no
+// heap: there are always eight places, and n counts.)
 #[derive(Clone, Copy)]
 pub(crate) struct Walk<'a> {
     pub s: &'a [u8],

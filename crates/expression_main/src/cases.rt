@@ -55,8 +55,9 @@ impl Cases {
     // A condition is branched on.
     pub(crate) fn branch(self, text: &str, code: &[u8]) {
         self.begin_line(text);
-        match branch_on(code, 0, code.len(), 2, self.registers()) {
-            Ok(branch) => {
+        let branch = branch_on(code, 0, code.len(), 2, self.registers());
+        match branch.check {
+            Ok(()) => {
                 let _ = print!(self.rt; "yes ");
                 print_registers(self.rt, branch.yes);
                 let _ = print!(self.rt; ", no ");

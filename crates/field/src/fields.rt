@@ -20,9 +20,9 @@ use refusal::{Fault, Refusal};
 // Locks, and a thread's registers: at most 8.
 const MOST_NAMES: usize = 8;
 
-const GREATEST_LIMIT: Time = Time(1000000);
+pub const GREATEST_LIMIT: Time = Time(1000000);
 
-const GREATEST_BUDGET: u32 = 10000000;
+pub const GREATEST_BUDGET: u32 = 10000000;
 
 // The byte at p, or 0 past the sheet's end.
 pub fn byte_at(s: &[u8], p: usize) -> usize
@@ -33,11 +33,12 @@ pub fn byte_at(s: &[u8], p: usize) -> usize
 
 // ---- the length of a field, and its tag
 
-pub(crate) fn length_at(s: &[u8], at: usize) -> usize
+// Of the body behind the field's head.
+pub fn length_at(s: &[u8], at: usize) -> usize
     requires { at + 3 ≤ length s.now }
     ensures { (result ≡ num16 s.now (at + 1)) × (result < 65536) }
 {
-    num16_at(s, at + 1) as usize
+    usize::from(num16_at(s, at + 1))
 }
 
 pub(crate) fn has_body(s: &[u8], at: usize) -> bool

@@ -37,7 +37,7 @@ pub(crate) fn field_at(s: &[u8], at: usize) -> Result<Field, Fault>
     need(has_head(s, at), Refusal::Short, at)?;
     Ok(Field {
         tag: s[at + TAG],
-        length: num16_at(s, at + LENGTH) as usize,
+        length: usize::from(num16_at(s, at + LENGTH)),
         body: at + HEAD,
     })
 }

@@ -4,7 +4,7 @@
 
 pub mod ticks; // ticks of a clock
 pub mod outcome; // what a reader gives
-mod tags; // the tags of fields
+pub mod tags; // the tags of fields
 mod heads; // the head of a field: its tag and its length
 pub mod fields; // a field of any tag, and the fields of tags 1, 3 and 4
 mod ranges; // the fields of tags 2 and 5
@@ -15,8 +15,8 @@ pub mod decoding; // a statement, by its place
 
 pub use decoding::{Action, is_halt, statement_at};
 pub use fields::{
-    Header, any_field_end, byte_at, fixed_field_end, header_at, header_end, locks_end, open_end,
-    whole_field_at,
+    GREATEST_BUDGET, GREATEST_LIMIT, Header, any_field_end, byte_at, fixed_field_end, header_at,
+    header_end, length_at, locks_end, open_end, whole_field_at,
 };
 pub use heads::has_head;
 pub use operands::Names;

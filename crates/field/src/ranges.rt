@@ -57,6 +57,7 @@ pub fn read_variables(s: &[u8], at: usize) -> Result<Counted, Fault>
 {
     let mut count = 0;
     let mut end = at;
+    // A `while`: behind a `for` over the most that may stand there, the place would be tested once more to tell too many.
     while variable_here(s, end)? {
         need(count < MOST_VARIABLES, Refusal::TooMany, end)?;
         end = range_end(s, end)?;

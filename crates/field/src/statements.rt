@@ -17,7 +17,8 @@ use refusal::{Fault, Refusal};
 
 // ---- a statement's field
 
-// Whether a statement of a code may have these times.
+// Whether a statement of a code may have these times. The code is the sheet's number and no `Code`: 0 is halt's, and `retime` gives
+// the number where it stands.
 pub fn times_fit(c: usize, least: Time, greatest: Time) -> bool
     ensures { result ≡ times_fit c least.0 greatest.0 }
 {

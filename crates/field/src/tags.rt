@@ -1,14 +1,14 @@
-// The tags of a sheet's fields.
+// The tags of a sheet's fields: bytes and no enum, as a function on a field of any tag (`fixed_field_end`) takes those of other files too.
 
-pub(crate) const HEADER: u8 = 1;
+pub const HEADER: u8 = 1;
 
-pub(crate) const VARIABLE: u8 = 2;
+pub const VARIABLE: u8 = 2;
 
-pub(crate) const LOCKS: u8 = 3;
+pub const LOCKS: u8 = 3;
 
 // The field that opens a thread.
-pub(crate) const THREAD: u8 = 4;
+pub const THREAD: u8 = 4;
 
-pub(crate) const REGISTER: u8 = 5;
+pub const REGISTER: u8 = 5;
 
-pub(crate) const STATEMENT: u8 = 6;
+pub const STATEMENT: u8 = 6;

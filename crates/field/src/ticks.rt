@@ -12,7 +12,7 @@ pub(crate) fn time16_at(s: &[u8], p: usize) -> Time
     requires { p + 2 ≤ length s.now }
     ensures { (result.0 ≡ num16 s.now p) × (result.0 < 65536) }
 {
-    Time(num16_at(s, p))
+    Time(u32::from(num16_at(s, p)))
 }
 
 pub(crate) fn time32_at(s: &[u8], p: usize) -> Time

@@ -35,12 +35,9 @@ fn put_reason(e: Error, out: &mut [u8]) -> usize
 fn words_in(text: &[u8]) -> usize
     ensures { result ≤ length text.now }
 {
-    for i in 0..text.len() {
-        if text[i..].starts_with(BEHIND) {
-            return i;
-        }
-    }
-    text.len()
+    text.windows(BEHIND.len())
+        .position(|part| part == BEHIND)
+        .unwrap_or(text.len())
 }
 
 // A line of a name and the system's reason for an error.

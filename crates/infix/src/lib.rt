@@ -3,6 +3,7 @@
 // stands, a lent buffer and the place in it from which to write. What is written of what does not read is left free.
 #![tactic(auto)]
 
+mod body; // what each step has at hand
 mod leaves; // constants and registers
 mod marks; // parentheses, and what stands between two operands
 mod arithmetic; // operations

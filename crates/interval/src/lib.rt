@@ -4,12 +4,11 @@
 
 ghost use Rattle.std.specs.Prelude.{◌≡◌, ℤ, if◌then◌else◌};
 ghost use Rattle.std.proofs.Math.IntN.{suc_ℤ, pred_ℤ};
-ghost use Rattle.std.specs.Int.Signed.{le_z, lt_z};
 ghost use Rattle.std.specs.Int.{w32};
 ghost use Rattle.std.proofs.Common.{SFits};
 ghost use Rattle.rules.specs.Constants.{half32};
 ghost use Rattle.rules.specs.Refusal.{on_both};
-ghost use Rattle.rules.specs.Interval.{interval, in_range, eq_z, hull, within, combine, meet, join};
+ghost use Rattle.rules.specs.Interval.{interval, in_range, hull, within, combine, meet, join};
 ghost use Rattle.rules.specs.Expression.{at_most, at_least};
 ghost use Rattle.interval.specs.Shape.{interval_of, result_of, operator_of};
 ghost use Rattle.interval.specs.Bounds.{holds, EndsOf};
@@ -59,6 +58,7 @@ fn ends<T: Ord + Copy, F: Fn(Val, Val) -> T>(f: F, a: Span, b: Span) -> (T, T)
     (p.min(q).min(r.min(s)), p.max(q).max(r.max(s)))
 }
 
+// A match: `map` and `map_err` with two closures were tried, and the goal about the two together stays open.
 fn narrow(a: i64) -> Result<Val, Refusal>
     ensures { result ≡ (if in_range half32 a then Ok (record { 0 = a }) else Err Refusal.OffScale) }
 {
@@ -114,33 +114,14 @@ pub fn combine_readings(
     combine(o, x?, y?)
 }
 
-// ---- comparisons of values
-
-pub fn at_most(a: Val, b: Val) -> bool
-    ensures { result ≡ le_z a.0 b.0 }
-{
-    a <= b
-}
-
-pub fn below(a: Val, b: Val) -> bool
-    ensures { result ≡ lt_z a.0 b.0 }
-{
-    a < b
-}
-
-#[tactic(auto, using(crate::proofs::Order::equal_is))]
-pub fn equal(a: Val, b: Val) -> bool
-    ensures { result ≡ eq_z a.0 b.0 }
-{
-    a == b
-}
+// ---- a value on a span
 
 // Whether a value lies on a span.
 #[tactic(auto, unfolding(crate::specs::Bounds::holds))]
 pub fn holds(s: Span, a: Val) -> bool
     ensures { result ≡ holds (interval_of s) a.0 }
 {
-    at_most(s.low, a) && at_most(a, s.high)
+    s.low <= a && a <= s.high
 }
 
 // ---- spans met, joined and cut

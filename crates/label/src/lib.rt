@@ -14,7 +14,8 @@ use refusal::{Fault, Refusal};
 use search::{Label, Outcome, Searched, Window, search_sheet};
 use writing::put_front;
 
-// Refusal 0 is acceptance; low and high are then the window of finishing ticks.
+// Refusal 0 is acceptance; low and high are then the window of finishing ticks. These are the numbers that C gets, and no `Refusal` or
+// `Window`: 0 is no refusal, and a sheet that is refused for its label has a window too.
 #[derive(Clone, Copy, PartialEq, Eq)]
 pub struct Answer {
     pub refusal: u32,
@@ -24,7 +25,7 @@ pub struct Answer {
     pub high: u32,
 }
 
-// An answer without a window.
+// An answer without a window. The refusal is a number and no `Refusal`, since this is public and takes any number.
 pub fn refused(refusal: u32, place: usize, steps: u32) -> Answer
     ensures { result ≡ five_of refusal place steps 0 0 }
 {
@@ -37,7 +38,7 @@ pub fn refused(refusal: u32, place: usize, steps: u32) -> Answer
     }
 }
 
-// An answer with a window: here ticks become two of the five numbers.
+// An answer with a window: here ticks become two of the five numbers. The refusal is a number, since 0 says that there is none.
 fn five(refusal: u32, steps: u32, w: Window) -> Answer
     ensures { result ≡ five_of refusal 0 steps w.low.0 w.high.0 }
 {
@@ -112,7 +113,7 @@ pub fn check(sheet: &[u8], work: &mut [i32]) -> Answer
 }
 
 // The five numbers in the order refusal, place, steps, low, high, at the front of a lent array. An array of fewer than five numbers is
-// left as it is.
+// left as it is. The place goes by `as`: std has no `From` for it, and `try_from` would give an `Err` that cannot come.
 pub fn put_answer(a: Answer, numbers: &mut [u64])
     ensures { numbers.new ≡ at_front (listed (answer_of a)) numbers.old }
 {

@@ -22,7 +22,7 @@ const LENT: usize = 12000;
 // The longest line: ten digits for each number of 32 bits, twenty for the place, and one byte behind each of the five.
 const LONGEST_LINE: usize = 65;
 
-// A text: the first so many of the bytes.
+// A text: the first so many of the bytes. With no heap it is an array and a length, and no slice alone: `Holds` tells the zeros behind.
 #[derive(Clone, Copy)]
 struct Line {
     bytes: [u8; LONGEST_LINE],
@@ -45,7 +45,8 @@ fn printed(sheet: &[u8]) -> Line
     line_of(check(sheet, &mut work))
 }
 
-// Reads standard input as far as there is room, and gives how many bytes it read.
+// Reads standard input as far as there is room, and gives how many bytes it read. It is not `files::read_sheet`, since the edit
+// fewer_bytes_read stands on this program's own constant.
 fn read_sheet(rt: HostRuntime, sheet: &mut [u8; MOST_BYTES]) -> usize
     ensures { (length sheet.new ≡ longest_sheet + 1) × (result ≤ longest_sheet + 1) }
 {

@@ -18,8 +18,8 @@ use Rattle.scan.proofs.WordLaws.{here, over}
 use Rattle.scan.proofs.Readings.{head-map, same_head, range-map}
 use Rattle.lines.proofs.WordChoice.{one-decides, first-is, first-is-not}
 use Rattle.lines.specs.Writing.{OneName, TwoNames, RangeTag, Acts, Lines}
-use Rattle.lines.specs.declared.line.Field.{Field}
-use Rattle.lines.specs.declared.actions.Acted.{Acted}
+use Rattle.scan.specs.declared.step.Built.{Built}
+use Rattle.lines.specs.declared.line.Due as D
 
 -- ---- codes and tags
 
@@ -190,8 +190,8 @@ pub range-there : (s : Bytes) (q : ℕ) (w : Bytes) (f : Interval → Line)
 unfolding head_line
 range-there s q w f = sym (head-map w (range signed interval) f (drop q s)) ∙ same_head w (range-map signed interval f) (drop q s)
 
-pub acts-as : (s o m : Bytes) (at : ℕ) (g h : Read Action) (r : Result Acted ℕ) → Acts s o at m g r → g ≡ h → Acts s o at m h r
+pub acts-as : (s o m : Bytes) (at : ℕ) (g h : Read Action) (r : Result (Built ℕ) ℕ) → Acts s o at m g r → g ≡ h → Acts s o at m h r
 acts-as s o m at g h r l e = subst (λ k. Acts s o at m k r) e l
 
-pub lines-as : (s o m : Bytes) (at : ℕ) (g h : Read Line) (r : Result Field ℕ) → Lines s o at m g r → g ≡ h → Lines s o at m h r
+pub lines-as : (s o m : Bytes) (at : ℕ) (g h : Read Line) (r : Result (Built D.Due) ℕ) → Lines s o at m g r → g ≡ h → Lines s o at m h r
 lines-as s o m at g h r l e = subst (λ k. Lines s o at m k r) e l

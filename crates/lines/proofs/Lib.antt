@@ -1,6 +1,5 @@
 -- Where a reader stops and what it takes; what a statement does; each kind of line, and which it is; registers counted ahead.
 pub mod Opened
-pub mod Steps
 pub mod ActionLaws
 pub mod StatementLaws
 pub mod NamedLaws

@@ -36,7 +36,7 @@ pub locks-put : (s o after : Bytes) (at end n q place : ℕ)
     → took n (drop place s) ≡ map_read capped (head_line (bytes "locks") number (drop q s))
     → after ≡ (if ltb n 256 then sets o at (field_of_one 3 n) else o) → end ≡ min (at + 4) 65536
     → Lines s o at after (map_read locks_line (head_line (bytes "locks") number (drop q s)))
-    (Ok (record { due = due.Var; place = place; end = end; fits = ltb n 256 }))
+    (Ok (record { kind = due.Var; place = place; end = end; fits = ltb n 256 }))
 unfolding Lines map_read due_after line_fits field_of
 locks-put s o after at end n q place h p he =
     let z = map-took capped (head_line (bytes "locks") number (drop q s)) h in
@@ -78,7 +78,7 @@ module _ (s o after : Bytes) (at end tag q : ℕ) (word : Bytes) (d : Due) (x : 
   both-fit i = refl
 
   pub range-put : Lines s o at after (map_read f (ranged s word q))
-      (Ok (record { due = d; place = x.place; end = end; fits = pair_fits x }))
+      (Ok (record { kind = d; place = x.place; end = end; fits = pair_fits x }))
   unfolding Lines map_read
   range-put =
       let z = head-took s word q (sym h) in

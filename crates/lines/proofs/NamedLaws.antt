@@ -40,7 +40,7 @@ module _ (s o m after : Bytes) (at end n v : ℕ) (p : m ≡ (if ltb n 256 then 
       → took v (drop place s) ≡ map_read capped (name (bytes "x") (drop second s)) → fits ≡ (ltb n 256 && ltb v 256)
       → (f : ℕ → ℕ → Action) → TwoNames code f
       → Acts s o at after (then_read (word_only word (drop q s)) (λ _ t. transfer joint f t))
-      (Ok (record { code = code; place = place; end = end; fits = fits }))
+      (Ok (record { kind = code; place = place; end = end; fits = fits }))
   unfolding Acts transfer map_read
   transfer-acts fits code q first between second place word joint hw hn hj hv hs f names =
       let k = map-took capped (name (bytes "r") (drop first s)) hn in
@@ -63,7 +63,7 @@ pub locking-acts : (s o after : Bytes) (at end n code q lock place : ℕ) (word 
     → took tt (drop lock s) ≡ word_only word (drop q s) → took n (drop place s) ≡ map_read capped (name (bytes "l") (drop lock s))
     → (f : ℕ → Action) → OneName code f
     → Acts s o at after (then_read (word_only word (drop q s)) (λ _ t. map_read f (name (bytes "l") t)))
-    (Ok (record { code = code; place = place; end = end; fits = ltb n 256 }))
+    (Ok (record { kind = code; place = place; end = end; fits = ltb n 256 }))
 unfolding Acts map_read
 locking-acts s o after at end n code q lock place word p he hw hn f names =
     let k = map-took capped (name (bytes "l") (drop lock s)) hn in

@@ -21,13 +21,13 @@ use Rattle.notation.specs.Forms.{arith_form, condition_form}
 use Rattle.lines.specs.Writing.{Acts}
 use Rattle.lines.proofs.ActionLaws.{wrote-before, put_is, fit_of}
 
-module _ (s o m after : Bytes) (at from n : ℕ) (x : Built) (fits : Bool) (q : ℕ) (sm : length o < 65536) (hf : from ≡ min (at + 1) 65536)
+module _ (s o m after : Bytes) (at from n : ℕ) (x : Built Bool) (fits : Bool) (q : ℕ) (sm : length o < 65536) (hf : from ≡ min (at + 1) 65536)
     (p : after ≡ (if ltb n 256 then set m at n else m)) (hs : fits ≡ (ltb n 256 && x.fits)) where
   -- `r0 := ..`
   pub assignment-acts : (joint right : ℕ) → took n (drop joint s) ≡ map_read capped (name (bytes "r") (drop q s))
       → took tt (drop right s) ≡ symbol (bytes ":=") (drop joint s)
       → Made arith_form s o from m (read_sum (drop right s)) x
-      → Acts s o at after (assignment (drop q s)) (Ok (record { code = 2; place = x.place; end = x.end; fits = fits }))
+      → Acts s o at after (assignment (drop q s)) (Ok (record { kind = 2; place = x.place; end = x.end; fits = fits }))
   unfolding Acts assignment arith_form action_fits code_of encode_operands map_read
   assignment-acts joint right hn hd b =
       let k = map-took capped (name (bytes "r") (drop q s)) hn in
@@ -48,7 +48,7 @@ module _ (s o m after : Bytes) (at from n : ℕ) (x : Built) (fits : Bool) (q : 
       → took tt (drop target s) ≡ word_only (bytes "goto") (drop x.place s)
       → took n (drop place s) ≡ map_read capped (number (drop target s))
       → Acts s o at after (then_read (word_only (bytes "if") (drop q s)) (λ _ t. jump t))
-      (Ok (record { code = 3; place = place; end = x.end; fits = fits }))
+      (Ok (record { kind = 3; place = place; end = x.end; fits = fits }))
   unfolding Acts jump condition_form action_fits code_of encode_operands map_read
   jump-acts test target place hw b hg hn =
       let k = map-took capped (number (drop target s)) hn in

@@ -23,7 +23,7 @@ use Rattle.scan.proofs.Readings.{line-end-stop, line-end-took, then-stop, then-t
 use Rattle.lines.specs.Reading.{one_end, pair, pair_of}
 use Rattle.lines.specs.Writing.{front_bytes, times_small, put_timed, Acts, Lines}
 use Rattle.lines.specs.declared.ranges.Pair.{Pair}
-use Rattle.lines.specs.declared.actions.Acted.{Acted}
+use Rattle.scan.specs.declared.step.Built.{Built}
 use Rattle.lines.specs.declared.line.Due.TheVariants as due
 use Rattle.lines.proofs.ActionLaws.{wrote-before, if-true}
 use Rattle.lines.proofs.RangeLaws.{range-stops, range-takes}
@@ -76,13 +76,13 @@ module _ (s : Bytes) (q : ℕ) (x : Pair) (h : pair_of pair s (Ok x) ≡ range (
         greatest-is = z.high_is;
       }
 
-  pub timed-endless : (o m : Bytes) (from : ℕ) (y : Acted) {w : Bytes} → Acts s o from m (action_here (drop word s)) (Ok y)
-      → stop w ≡ line_end {A = ℕ} 0 (drop y.place s)
+  pub timed-endless : (o m : Bytes) (from : ℕ) (y : Built ℕ) {w : Bytes} → Acts s o from m (action_here (drop word s)) (Ok y)
+      → stop w ≡ line_end {A = Unit {0}} tt (drop y.place s)
       → then_read (timed (drop q s)) line_end ≡ stop w
   unfolding Acts
   timed-endless o m from y a e =
       let z = timed-took a.is in
-      then-took _ line_end z.reads ∙ line-end-stop 0 (statement_line z.least z.greatest a.thing) (drop y.place s) (sym e)
+      then-took _ line_end z.reads ∙ line-end-stop tt (statement_line z.least z.greatest a.thing) (drop y.place s) (sym e)
 
   -- ---- its line
 
@@ -112,20 +112,20 @@ module _ (s : Bytes) (q : ℕ) (x : Pair) (h : pair_of pair s (Ok x) ≡ range (
             → put_timed m at end x c ≡ sets m at (front_bytes (end - at - 3) x.low x.high c)
         chosen h k t = rw (h, k) (if-true (times_small x) (sets m at (front_bytes (end - at - 3) x.low x.high c)) m t)
 
-    pub timed-put : (y : Acted) (v : ℕ) (fits : Bool) (place : ℕ) → Acts s o from m (action_here (drop word s)) (Ok y)
-        → took v (drop place s) ≡ line_end 0 (drop y.place s)
-        → after ≡ put_timed m at y.end x y.code → fits ≡ (times_small x && y.fits)
+    pub timed-put : (y : Built ℕ) (fits : Bool) (place : ℕ) → Acts s o from m (action_here (drop word s)) (Ok y)
+        → took tt (drop place s) ≡ line_end {A = Unit {0}} tt (drop y.place s)
+        → after ≡ put_timed m at y.end x y.kind → fits ≡ (times_small x && y.fits)
         → Lines s o at after (then_read (timed (drop q s)) line_end)
-        (Ok (record { due = due.Statement; place = place; end = y.end; fits = fits }))
+        (Ok (record { kind = due.Statement; place = place; end = y.end; fits = fits }))
     unfolding Acts Lines due_after line_fits field_of
-    timed-put y v fits place a e ha hs =
+    timed-put y fits place a e ha hs =
         let z = timed-took a.is in
         record {
           thing = statement_line z.least z.greatest a.thing;
-          is = then-took _ line_end z.reads ∙ line-end-took 0 (statement_line z.least z.greatest a.thing) (drop y.place s) (sym e);
+          is = then-took _ line_end z.reads ∙ line-end-took tt (statement_line z.least z.greatest a.thing) (drop y.place s) (sym e);
           kind_is = refl;
           fit_is = hs ∙ ap (λ g. (g && ltb x.high 65536) && y.fits) (ap (λ g. ltb g 65536) z.least-is ∙ two_is z.least)
               ∙ ap (λ g. (fits_two z.least && g) && y.fits) (ap (λ g. ltb g 65536) z.greatest-is ∙ two_is z.greatest)
               ∙ ap (λ g. (fits_two z.least && fits_two z.greatest) && g) a.fit_is;
-          wrote = let w = front-is z.least z.greatest y.code a.thing y.end y.fits z.least-is z.greatest-is a.kind_is ha a.wrote in rw hs w;
+          wrote = let w = front-is z.least z.greatest y.kind a.thing y.end y.fits z.least-is z.greatest-is a.kind_is ha a.wrote in rw hs w;
         }

@@ -1,5 +1,5 @@
 -- What the code reads and writes of a line: the rules' own reading, and the bytes of what was read.
-use Rattle.std.specs.Prelude.{◌≡◌, Bool, ◌&&◌, [], ◌∷◌, ◌++◌, ℕ, ◌+◌, ◌-◌, ◌≤◌, Result, Ok, Err, ltb, length, drop, if◌then◌else◌}
+use Rattle.std.specs.Prelude.{◌≡◌, Bool, ◌&&◌, [], ◌∷◌, ◌++◌, ℕ, ◌+◌, ◌-◌, Result, Ok, Err, ltb, length, drop, if◌then◌else◌}
 use Rattle.std.proofs.lemmas.List.Edits.{sets}
 use Rattle.rules.specs.Format.{Bytes}
 use Rattle.rules.specs.Interval.{Interval}
@@ -8,15 +8,13 @@ use Rattle.rules.specs.Encoding.{two, four, field, code_of, encode_operands}
 use Rattle.text.specs.Words.{bytes, Read, stop, took, then_read, map_read, name, keyword}
 use Rattle.text.specs.Lines.{Line, word_only, jump, transfer, actions, Due, locks_due, var_due, reg_due, statement_due, due_after}
 use Rattle.text.specs.Convert.{action_fits, line_fits, fits_byte, field_of}
-use Rattle.scan.specs.Reading.{Onward}
 use Rattle.scan.specs.Writing.{Wrote}
+use Rattle.scan.specs.declared.step.Built.{Built}
 use Rattle.lines.specs.declared.ranges.Pair.{Pair}
-use Rattle.lines.specs.declared.actions.Acted.{Acted}
 use Rattle.lines.specs.declared.actions.Opening.{Opening}
 use Rattle.lines.specs.declared.actions.Opening.TheVariants as opening
 use Rattle.lines.specs.declared.line.Due as D
 use Rattle.lines.specs.declared.line.Due.TheVariants as due
-use Rattle.lines.specs.declared.line.Field.{Field}
 use Rattle.lines.specs.Registers.{ahead_of}
 
 -- ---- bytes of fields
@@ -50,21 +48,9 @@ pub record Put {A K : Type 0} (write : Bytes → A → Bytes) (fits : A → Bool
 
 -- ---- what a statement does
 
-unfoldable pub Acts : Bytes → Bytes → ℕ → Bytes → Read Action → Result Acted ℕ → Type 0
-Acts s out at after g (Ok x) = Put (λ _. encode_operands) action_fits code_of s out at after g x.code x.place x.end x.fits
+unfoldable pub Acts : Bytes → Bytes → ℕ → Bytes → Read Action → Result (Built ℕ) ℕ → Type 0
+Acts s out at after g (Ok x) = Put (λ _. encode_operands) action_fits code_of s out at after g x.kind x.place x.end x.fits
 Acts s out at after g (Err q) = g ≡ stop (drop q s)
-
-abbrev pub acted_place : Result Acted ℕ → ℕ
-acted_place (Ok x) = x.place
-acted_place (Err q) = q
-
-abbrev pub acted_end : ℕ → Result Acted ℕ → ℕ
-acted_end at (Ok x) = x.end
-acted_end at (Err q) = at
-
--- it goes on from q, and what is written from at
-abbrev pub OnwardActed : Bytes → ℕ → ℕ → Result Acted ℕ → Type 0
-OnwardActed s q at r = Onward s q (acted_place r) × ((at ≤ acted_end at r) × (acted_end at r ≤ 65536))
 
 -- a code says its action, of one name or of two
 pub record OneName (c : ℕ) (f : ℕ → Action) : Type 0 where
@@ -121,20 +107,9 @@ due_of due.Statement = statement_due
 abbrev pub field_before : Bytes → Line → Bytes
 field_before s x = field_of (ahead_of (due_after x) s) x
 
-unfoldable pub Lines : Bytes → Bytes → ℕ → Bytes → Read Line → Result Field ℕ → Type 0
-Lines s out at after g (Ok x) = Put field_before line_fits due_after s out at after g (due_of x.due) x.place x.end x.fits
+unfoldable pub Lines : Bytes → Bytes → ℕ → Bytes → Read Line → Result (Built D.Due) ℕ → Type 0
+Lines s out at after g (Ok x) = Put field_before line_fits due_after s out at after g (due_of x.kind) x.place x.end x.fits
 Lines s out at after g (Err q) = g ≡ stop (drop q s)
-
-abbrev pub field_place : Result Field ℕ → ℕ
-field_place (Ok x) = x.place
-field_place (Err q) = q
-
-abbrev pub field_end : ℕ → Result Field ℕ → ℕ
-field_end at (Ok x) = x.end
-field_end at (Err q) = at
-
-abbrev pub OnwardField : Bytes → ℕ → ℕ → Result Field ℕ → Type 0
-OnwardField s q at r = Onward s q (field_place r) × ((at ≤ field_end at r) × (field_end at r ≤ 65536))
 
 -- a tag says its range
 pub record RangeTag (tag : ℕ) (f : Interval → Line) : Type 0 where

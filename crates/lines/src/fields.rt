@@ -1,4 +1,7 @@
 // Bytes of fields. What has no room is not written.
+//
+// The output and a place in it stay apart, since each call has another place: a struct would be made anew at each. Tags and codes are the
+// sheet's own bytes, written as they are: an enum would only be turned back into them.
 ghost use Rattle.std.specs.Prelude.{◌≡◌, [], ◌∷◌, ◌≤◌, ◌<◌, ltb, set, if◌then◌else◌};
 ghost use Rattle.std.proofs.lemmas.List.Edits.{sets};
 ghost use Rattle.rules.specs.Encoding.{two};

@@ -11,4 +11,4 @@ mod actions; // what a statement does
 mod timed; // a statement with its times
 pub mod line; // one line
 
-pub use line::{Due, Field, line_at};
+pub use line::{Due, line_at};

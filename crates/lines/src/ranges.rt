@@ -1,4 +1,7 @@
 // One end, or two, as `2..3`; and the lines of a word and such numbers.
+//
+// The text and a place in it stay apart, since each call has another place: a struct would be made anew at each. Whether an end is signed
+// is a flag, as `one_end` of the rules' views takes it; a reader in its place would need a clause of its own in each contract here.
 ghost use Rattle.std.specs.Prelude.{◌≡◌, ◌&&◌, ◌≤◌, ◌<◌, length, drop, ltb};
 ghost use Rattle.text.specs.Words.{map_read, number};
 ghost use Rattle.text.specs.Lines.{range, head_line};
@@ -52,7 +55,7 @@ pub fn range_at(s: &[u8], p: usize, signed: bool) -> Result<Pair, usize>
     ensures onward { Onward s.now p (pair_place result) }
 {
     let (low, q) = end_at(s, p, signed)?;
-    let (_, r) = symbol_at(s, q, b"..")?;
+    let r = symbol_at(s, q, b"..")?;
     let (high, place) = end_at(s, r, signed)?;
     Ok(Pair { low, high, place })
 }
@@ -64,9 +67,10 @@ pub fn number_line(s: &[u8], p: usize, word: &[u8]) -> Result<(u64, usize), usiz
     ensures result_value { read_of same s.now result ≡ map_read capped (head_line word.now number (drop p s.now)) }
     ensures onward { OnwardStep s.now p result }
 {
-    let (_, q) = word_only_at(s, p, word)?;
+    let q = word_only_at(s, p, word)?;
     let (n, r) = number_at(s, q)?;
-    line_end_at(s, n, r)
+    let end = line_end_at(s, r)?;
+    Ok((n, end))
 }
 
 // A line of a word and two numbers.
@@ -76,8 +80,8 @@ pub fn range_line(s: &[u8], p: usize, word: &[u8], signed: bool) -> Result<Pair,
     ensures result_value { pair_of pair s.now result ≡ head_line word.now (range (one_end signed) pair) (drop p s.now) }
     ensures onward { Onward s.now p (pair_place result) }
 {
-    let (_, q) = word_only_at(s, p, word)?;
+    let q = word_only_at(s, p, word)?;
     let x = range_at(s, q, signed)?;
-    let (_, place) = line_end_at(s, x.high, x.place)?;
+    let place = line_end_at(s, x.place)?;
     Ok(Pair { place, ..x })
 }

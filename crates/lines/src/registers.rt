@@ -5,7 +5,7 @@ ghost use Rattle.lines.specs.Registers.{ahead_of};
 
 use crate::ranges::range_line;
 
-// How many there are from here on, up to 255.
+// How many there are from here on, up to 255; it goes on while a `reg` line stands next.
 pub(crate) fn registers_ahead(s: &[u8], p: usize) -> u8
     requires { p ≤ length s.now }
     ensures { result ≡ min (ahead_of reg_due (drop p s.now)) 255 }

@@ -127,6 +127,6 @@ pub mends_well_lem : (s : Bytes) (n k : ℕ) → MendsWell s n k
 mends_well_lem s n k = mend-claims.mends_well s n k
 
 -- what the search is given
-pub ruleset through_laws = (too-long, unread)
+pub ruleset through_laws = (unread)
 
-pub ruleset call_laws = (mends_well_lem)
+pub ruleset call_laws = (too-long, mends_well_lem)

@@ -1,20 +1,12 @@
 // A whole field, of whichever tag: the place behind it, whether its ends are reversed, and whether it wants a halt behind it.
+// That the field ends inside the sheet is the caller's own test: both walks stop where `whole_field_at` says no.
 ghost use Rattle.std.specs.Prelude.{◌≡◌, ◌≤◌, ◌<◌, length, IfSome};
 ghost use Rattle.mended.specs.Mend as Rule;
 ghost use Rattle.mend.specs.Shape.{last_of, added_to};
 
 use expression::{int32_at, num16_at, num32_at};
-use field::has_head;
-
-const HEADER: u8 = 1;
-
-const VARIABLE: u8 = 2;
-
-const THREAD: u8 = 4;
-
-const REGISTER: u8 = 5;
-
-const STATEMENT: u8 = 6;
+use field::tags::{HEADER, REGISTER, STATEMENT, THREAD, VARIABLE};
+use field::{has_head, length_at};
 
 const HALT_CODE: u8 = 0;
 
@@ -22,7 +14,7 @@ pub(crate) fn behind(s: &[u8], at: usize) -> usize
     requires { Rule.behind s.now at ≤ length s.now }
     ensures { result ≡ Rule.behind s.now at }
 {
-    at + 3 + num16_at(s, at + 1) as usize
+    at + 3 + length_at(s, at)
 }
 
 // ---- ends
@@ -33,10 +25,10 @@ pub(crate) fn is_reversed(s: &[u8], at: usize) -> bool
     requires { Rule.behind s.now at ≤ length s.now }
     ensures { result ≡ Rule.reversed s.now at }
 {
-    let n = num16_at(s, at + 1);
+    let n = length_at(s, at);
     match s[at] {
         HEADER => n == 16 && num32_at(s, at + 15) < num32_at(s, at + 11),
-        VARIABLE | REGISTER => n == 8 && int32_at(s, at + 7).0 < int32_at(s, at + 3).0,
+        VARIABLE | REGISTER => n == 8 && int32_at(s, at + 7) < int32_at(s, at + 3),
         STATEMENT => 5 <= n && num16_at(s, at + 5) < num16_at(s, at + 3),
         _ => false,
     }
@@ -64,7 +56,7 @@ pub(crate) fn open_after(s: &[u8], at: usize) -> Option<usize>
     ensures last { last_of result ≡ Rule.open_after s.now at }
     ensures inside { IfSome result (λ p. p < length s.now) }
 {
-    let wants_halt = s[at] == STATEMENT && 5 <= num16_at(s, at + 1) && s[at + 7] != HALT_CODE;
+    let wants_halt = s[at] == STATEMENT && 5 <= length_at(s, at) && s[at + 7] != HALT_CODE;
     wants_halt.then_some(at)
 }
 
@@ -76,9 +68,11 @@ fn closes_at(s: &[u8], at: usize) -> bool
     s.len() <= at || has_head(s, at) && s[at] == THREAD
 }
 
-// The statement that gets a halt at a place: the one before it, where it wants one and its thread closes there.
+// The statement that gets a halt at a place: the one before it, where it wants one and its thread closes there. Where none is wanted,
+// the place is not looked at.
 pub(crate) fn halt_added(s: &[u8], at: usize, last: Option<usize>) -> Option<usize>
     ensures { result ≡ added_to (Rule.closes_at s.now at) last }
 {
-    if closes_at(s, at) { last } else { None }
+    let place = last?;
+    closes_at(s, at).then_some(place)
 }

@@ -1,5 +1,6 @@
 // Mending a garbled sheet (02, ticket 13): ends that stand the wrong way round are exchanged, and a thread that closes on another
 // statement gets its halt.
+// `as u64` of a usize: std has no `From` for it, and `try_from` would give an `Err` that cannot come.
 #![tactic(auto)]
 
 mod fields; // a whole field, of whichever tag
@@ -16,16 +17,16 @@ ghost use Rattle.mended.specs.Mend as Rule;
 ghost use Rattle.mended.specs.Claims.{MendsWell};
 ghost use Rattle.mend.specs.Shape.{mending_of, mended_by, FourIn, Leaves};
 
-use crate::outputs::{fill_bytes, refuse};
+use crate::outputs::refuse;
 use crate::verdict::{LONGEST_SHEET, MOST_MENDED, judge};
 use crate::writer::{Ends, put_fields};
 use field::need;
 pub use outputs::Mending;
 use refusal::{Fault, Refusal};
-use writing::{put_copies, put_front};
+use writing::{fill, put_copies, put_front};
 
 // Writes both outputs, where nothing is refused. The mended sheet goes through the work buffer, which has room for it, since it may be
-// refused before it is known to fit.
+// refused before it is known to fit. The sheet's length is the caller's own test: too long a sheet gets no work buffer.
 #[tactic(auto, using(crate::proofs::Outcome::through_laws))]
 fn mend_through(
     sheet: &[u8],
@@ -33,16 +34,16 @@ fn mend_through(
     mended: &mut [u8],
     changes: &mut [u32],
 ) -> Result<Ends, Fault>
-    requires { 2 * longest_sheet ≤ length work.old }
+    requires { (length sheet.now ≤ longest_sheet) × (2 * longest_sheet ≤ length work.old) }
     ensures ok { IfOk result (λ e. mended_by e mended.new changes.new ≡ Rule.mend sheet.now (length mended.old) (length changes.old)) }
-    ensures err { IfErr result (λ f. Rule.refused_with (length mended.old) (length changes.old) (rule_of f.refusal) f.place ≡ Rule.mend sheet.now (length mended.old) (length changes.old)) }
+    ensures err { IfErr result (λ f. Rule.refused_with (length mended.old) (length changes.old) (rule_of f.refusal) f.place
+        ≡ Rule.mend sheet.now (length mended.old) (length changes.old)) }
 {
-    need(sheet.len() <= LONGEST_SHEET, Refusal::TooLong, 0)?;
     let ends = put_fields(sheet, work, changes);
     judge(sheet, &work[..ends.bytes])?;
     let fits = ends.bytes <= mended.len() && ends.numbers <= changes.len();
     need(fits, Refusal::OutputFull, 0)?;
-    fill_bytes(mended, &work[..ends.bytes]);
+    fill(mended, &work[..ends.bytes]);
     put_copies(changes, ends.numbers, 0);
     Ok(ends)
 }
@@ -56,6 +57,13 @@ pub fn mend_sheet(sheet: &[u8], mended: &mut [u8], changes: &mut [u32]) -> Mendi
     ensures mends_well { MendsWell sheet.now (length mended.old) (length changes.old) }
     ensures unchanged { Unchanged sheet.now sheet.now }
 {
+    if LONGEST_SHEET < sheet.len() {
+        let fault = Fault {
+            refusal: Refusal::TooLong,
+            place: 0,
+        };
+        return refuse(mended, changes, fault);
+    }
     let mut work = [0u8; MOST_MENDED];
     match mend_through(sheet, &mut work, mended, changes) {
         Ok(ends) => Mending {

@@ -1,4 +1,5 @@
 // A place of the mended sheet, counted in the original: the walk once more, which takes off each halt that was added before it.
+// That the sheet is not too long, which bounds each place, is the caller's own test.
 ghost use Rattle.std.specs.Prelude.{◌≡◌, ◌+◌, ◌≤◌, length};
 ghost use Rattle.rules.specs.Constants.{longest_sheet};
 ghost use Rattle.mended.specs.Mend as Rule;
@@ -26,6 +27,7 @@ fn past_halt(added: Option<usize>, at: usize, p: usize) -> ControlFlow<usize, us
     }
 }
 
+// No function for this walk and that of `put_fields`: there bytes go out at each field, here halts are taken off, up to the place.
 #[tactic(auto, using(crate::proofs::writer::Laws::walk_laws))]
 pub(crate) fn original_place(s: &[u8], place: usize) -> usize
     requires { length s.now ≤ longest_sheet }
@@ -34,6 +36,7 @@ pub(crate) fn original_place(s: &[u8], place: usize) -> usize
     let mut p = place;
     let mut last = None;
     let mut at = 0;
+    // a `loop`: where the next field stands is read from this one
     loop {
         match past_halt(halt_added(s, at, last), at, p) {
             ControlFlow::Break(q) => return q,

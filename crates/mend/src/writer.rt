@@ -1,5 +1,7 @@
 // The walk over the fields of a sheet, which writes the mended sheet and the list of its changes. What does not fit is not written,
 // as in `writing`.
+// That the sheet is not too long, and that a field ends inside it, are the caller's own tests.
+// `place as u32`: std has no `From` for it, and `try_from` would give an `Err` that cannot come.
 ghost use Rattle.std.specs.Prelude.{◌≡◌, [], ◌∷◌, ◌+◌, ◌*◌, ◌≤◌, ◌<◌, ◌^◌, length, take, IfSome};
 ghost use Rattle.rules.specs.Constants.{longest_sheet};
 ghost use Rattle.writing.specs.Out.{Writes};
@@ -120,7 +122,8 @@ fn put_halt(
 pub(crate) fn put_fields(s: &[u8], out: &mut [u8], list: &mut [u32]) -> Ends
     requires { length s.now ≤ longest_sheet }
     ensures puts { Puts (Rule.mended s.now) out.old list.old no_ends out.new list.new result }
-    ensures front { 2 * longest_sheet ≤ length out.old → (result.bytes ≤ length out.new) × (take result.bytes out.new ≡ (Rule.mended s.now).bytes) }
+    ensures front { 2 * longest_sheet ≤ length out.old
+        → (result.bytes ≤ length out.new) × (take result.bytes out.new ≡ (Rule.mended s.now).bytes) }
 {
     let mut ends = Ends {
         bytes: 0,
@@ -128,6 +131,7 @@ pub(crate) fn put_fields(s: &[u8], out: &mut [u8], list: &mut [u32]) -> Ends
     };
     let mut last = None;
     let mut at = 0;
+    // a `loop`: where the next field stands is read from this one
     loop {
         ends = put_halt(s, at, last, out, list, ends);
         if !whole_field_at(s, at) {

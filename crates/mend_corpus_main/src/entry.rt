@@ -1,49 +1,61 @@
-// One entry: what stands in its front, the call, and what came of it.
-ghost use Rattle.std.specs.Prelude.{◌+◌, ◌≤◌};
-
-use corpus::{four, same_bytes, two};
+// One entry: what stands in its front, the call, and what came of it. Numbers are made wider by `as`: `usize` has no `From<u32>`, `u64`
+// none of a `usize`, and a `try_from` would give an error that cannot come.
+use corpus::{FILLED, bytes_at, two};
 use mend::{Mending, mend_sheet};
 
 // Bytes of a front.
 pub(crate) const FRONT: usize = 24;
 
-// What both buffers hold before each call.
-const FILLED: u8 = 7;
-
-// What is planted in an entry: one of its numbers is wrong, one byte of the mended sheet, or one number of the list.
+// What is planted in an entry: one of its numbers is wrong, one byte of the mended sheet, or one number of the list. The error is the
+// number itself, where it stands for nothing.
 #[derive(Clone, Copy, PartialEq, Eq)]
 pub(crate) enum Planted {
     Nothing,
     Number,
     Sheet,
     List,
-    Unknown,
 }
 
-impl From<u8> for Planted {
-    fn from(code: u8) -> Planted {
+impl TryFrom<u8> for Planted {
+    type Error = u8;
+
+    fn try_from(code: u8) -> Result<Planted, u8> {
         match code {
-            0 => Planted::Nothing,
-            1 => Planted::Number,
-            2 => Planted::Sheet,
-            3 => Planted::List,
-            _ => Planted::Unknown,
+            0 => Ok(Planted::Nothing),
+            1 => Ok(Planted::Number),
+            2 => Ok(Planted::Sheet),
+            3 => Ok(Planted::List),
+            _ => Err(code),
         }
     }
 }
 
-// What is planted, the lengths of the sheet and of what is stated of both outputs, the bytes that are lent for the mended sheet, and the
-// four numbers that are due.
+// What is planted, if it is known, the lengths of the sheet and of what is stated of both outputs, the bytes that are lent for the mended
+// sheet, and the four numbers that are due, as the corpus states them: the refusal is compared with the number that C gets.
 #[derive(Clone, Copy)]
 pub(crate) struct Front {
-    pub(crate) planted: Planted,
+    pub(crate) planted: Option<Planted>,
     pub(crate) sheet: usize,
     pub(crate) stated: usize,
     pub(crate) room: usize,
-    refusal: u64,
-    place: u64,
-    written: u64,
-    listed: u64,
+    due: [u64; 4],
+}
+
+impl From<[u8; FRONT]> for Front {
+    fn from(b: [u8; FRONT]) -> Front {
+        Front {
+            planted: Planted::try_from(b[0]).ok(),
+            sheet: u32::from_be_bytes(bytes_at(&b, 1)) as usize,
+            stated: u32::from_be_bytes(bytes_at(&b, 5)) as usize,
+            room: u32::from_be_bytes(bytes_at(&b, 9)) as usize,
+            due: [
+                u64::from(b[13]),
+                two(b[14], b[15]),
+                u64::from(u32::from_be_bytes(bytes_at(&b, 16))),
+                u64::from(u32::from_be_bytes(bytes_at(&b, 20))),
+            ],
+        }
+    }
 }
 
 // Whether the four numbers are the stated ones, and so are the mended sheet and the list, to the ends of both buffers.
@@ -52,26 +64,6 @@ pub(crate) struct Verdict {
     pub(crate) numbers: bool,
     pub(crate) sheet: bool,
     pub(crate) list: bool,
-}
-
-// The number in the four bytes from this place on.
-fn four_at(b: &[u8; FRONT], at: usize) -> u64
-    requires { at + 4 ≤ 24 }
-{
-    four(b[at], b[at + 1], b[at + 2], b[at + 3])
-}
-
-pub(crate) fn front_of(b: &[u8; FRONT]) -> Front {
-    Front {
-        planted: Planted::from(b[0]),
-        sheet: four_at(b, 1) as usize,
-        stated: four_at(b, 5) as usize,
-        room: four_at(b, 9) as usize,
-        refusal: u64::from(b[13]),
-        place: two(b[14], b[15]),
-        written: four_at(b, 16),
-        listed: four_at(b, 20),
-    }
 }
 
 // Whether each number is the one in the four bytes that are stated of it; where these end before, it is not.
@@ -84,11 +76,13 @@ fn same_list(list: &[u32], stated: &[u8]) -> bool {
             .all(|(n, bytes)| *n == u32::from_be_bytes(*bytes))
 }
 
-fn same_answer(m: Mending, f: Front) -> bool {
-    u64::from(m.refusal) == f.refusal
-        && m.place as u64 == f.place
-        && m.written as u64 == f.written
-        && m.listed as u64 == f.listed
+fn numbers_of(m: Mending) -> [u64; 4] {
+    [
+        u64::from(m.refusal),
+        m.place as u64,
+        m.written as u64,
+        m.listed as u64,
+    ]
 }
 
 // The call, with both buffers filled before it.
@@ -104,8 +98,8 @@ fn compare(
     changes.fill(u32::from(FILLED));
     let m = mend_sheet(sheet, mended, changes);
     Verdict {
-        numbers: same_answer(m, f),
-        sheet: same_bytes(mended, stated),
+        numbers: numbers_of(m) == f.due,
+        sheet: *mended == *stated,
         list: same_list(changes, numbers),
     }
 }

@@ -8,10 +8,9 @@
 
 mod entry;
 
-use crate::entry::{FRONT, Planted, Verdict, front_of, lend};
-use corpus::{counted, over_entries, put, read_front};
-use files::read_full;
-use std::io::Read;
+use crate::entry::{Front, Planted, Verdict, lend};
+use corpus::{Count, front, over_entries, read_front};
+use std::io::{Print, Read};
 
 // Bytes of a sheet at most, and of all that is stated of both outputs.
 const ROOM: usize = 20000;
@@ -21,39 +20,42 @@ const STATED: usize = 28000;
 // Numbers that are lent at most.
 const NUMBERS: usize = 2000;
 
-// How many entries are right, and how many of these differ; how many have a wrong number, a wrong sheet or a wrong list, and how many of
-// these were noticed.
+// The entries that are right, of which none is to differ, and those that have a wrong number, a wrong sheet or a wrong list.
 #[derive(Clone, Copy, Default)]
 struct Tally {
-    mends: u64,
-    differ: u64,
-    numbers: u64,
-    numbers_noticed: u64,
-    sheets: u64,
-    sheets_noticed: u64,
-    lists: u64,
-    lists_noticed: u64,
+    mends: Count,
+    numbers: Count,
+    sheets: Count,
+    lists: Count,
 }
 
-fn added(t: Tally, v: Verdict, planted: Planted) -> Tally {
-    let right = planted == Planted::Nothing;
-    let number = planted == Planted::Number;
-    let sheet = planted == Planted::Sheet;
-    let list = planted == Planted::List;
-    // Where one of three facts is planted, it alone does not hold.
-    Tally {
-        mends: counted(t.mends, right),
-        differ: counted(t.differ, right && !(v.numbers && v.sheet && v.list)),
-        numbers: counted(t.numbers, number),
-        numbers_noticed: counted(t.numbers_noticed, number && !v.numbers && v.sheet && v.list),
-        sheets: counted(t.sheets, sheet),
-        sheets_noticed: counted(t.sheets_noticed, sheet && v.numbers && !v.sheet && v.list),
-        lists: counted(t.lists, list),
-        lists_noticed: counted(t.lists_noticed, list && v.numbers && v.sheet && !v.list),
+impl Tally {
+    // One entry more. Where one of three facts is planted, it alone does not hold.
+    fn with(self, planted: Option<Planted>, v: Verdict) -> Tally {
+        match planted {
+            Some(Planted::Nothing) => Tally {
+                mends: self.mends.with(!(v.numbers && v.sheet && v.list)),
+                ..self
+            },
+            Some(Planted::Number) => Tally {
+                numbers: self.numbers.with(!v.numbers && v.sheet && v.list),
+                ..self
+            },
+            Some(Planted::Sheet) => Tally {
+                sheets: self.sheets.with(v.numbers && !v.sheet && v.list),
+                ..self
+            },
+            Some(Planted::List) => Tally {
+                lists: self.lists.with(v.numbers && v.sheet && !v.list),
+                ..self
+            },
+            None => self,
+        }
     }
 }
 
-// The count with one entry more; none where the corpus does not hold it whole.
+// The count with one entry more; none where the corpus does not hold it whole. The buffers stand side by side and in no struct: behind one
+// reference the borrow checker does not cover that one is sliced while another is lent.
 fn compare_next<R: Read>(
     from: &mut R,
     t: Tally,
@@ -62,16 +64,11 @@ fn compare_next<R: Read>(
     mended: &mut [u8],
     changes: &mut [u32],
 ) -> Option<Tally> {
-    let mut front = [0u8; FRONT];
-    if read_full(from, &mut front) < FRONT {
-        return None;
-    }
-    let f = front_of(&front);
-    if !read_front(from, sheet, f.sheet) || !read_front(from, stated, f.stated) {
-        return None;
-    }
+    let f = Front::from(front(from)?);
+    read_front(from, sheet, f.sheet)?;
+    read_front(from, stated, f.stated)?;
     let v = lend(f, &sheet[..f.sheet], &stated[..f.stated], mended, changes)?;
-    Some(added(t, v, f.planted))
+    Some(t.with(f.planted, v))
 }
 
 fn main(rt: HostRuntime) {
@@ -79,18 +76,17 @@ fn main(rt: HostRuntime) {
     let mut stated = [0u8; STATED];
     let mut mended = [0u8; ROOM];
     let mut changes = [0u32; NUMBERS];
-    let counted = over_entries(&mut rt.stdin(), Tally::default(), |from, t| {
+    let Some(t) = over_entries(&mut rt.stdin(), Tally::default(), |from, t| {
         compare_next(from, t, &mut sheet, &mut stated, &mut mended, &mut changes)
-    });
-    let Some(t) = counted else {
+    }) else {
         return;
     };
-    put(rt, t.mends, b" mends compared, ");
-    put(rt, t.differ, b" differ; noticed of what is planted: ");
-    put(rt, t.numbers_noticed, b" of ");
-    put(rt, t.numbers, b" wrong numbers, ");
-    put(rt, t.sheets_noticed, b" of ");
-    put(rt, t.sheets, b" wrong sheets, ");
-    put(rt, t.lists_noticed, b" of ");
-    put(rt, t.lists, b" wrong lists\n");
+    let _ = print!(rt;
+        "{} mends compared, {} differ; noticed of what is planted: ",
+        t.mends.all, t.mends.noticed
+    );
+    let _ = println!(rt;
+        "{} wrong numbers, {} wrong sheets, {} wrong lists",
+        t.numbers, t.sheets, t.lists
+    );
 }

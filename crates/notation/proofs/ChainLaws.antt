@@ -20,16 +20,16 @@ use Rattle.notation.specs.Signs.{Coded, SignRead}
 -- ---- one more operand
 
 -- a thing is read, and all of it stands written but for the codes that wait
-pub record Joining {A : Type 0} (F : Form A) (out : Bytes) (at : ℕ) (now codes : Bytes) (b : Built) (a : A) : Type 0 where
+pub record Joining {A : Type 0} (F : Form A) (out : Bytes) (at : ℕ) (now codes : Bytes) (b : Built Bool) (a : A) : Type 0 where
   pub fit_is : b.fits ≡ F.fits a
   pub pending : Pending out at (F.bytes a) b.fits now b.end codes
   pub room : length out ≡ length now
 
-joining : {A : Type 0} {F : Form A} {o now : Bytes} {at : ℕ} {b : Built} {a : A} → Begun F o at now b a → Joining F o at now [] b a
+joining : {A : Type 0} {F : Form A} {o now : Bytes} {at : ℕ} {b : Built Bool} {a : A} → Begun F o at now b a → Joining F o at now [] b a
 joining b = record { fit_is = b.fit_is; pending = pending-none b.wrote; room = b.room }
 
 -- the code waits, and the operand is written behind
-joining-more : {A : Type 0} {F : Form A} {m : A → A → A} {o now mid after codes codes' : Bytes} {at k c : ℕ} {b b' : Built} {g : Bool} {a a' : A}
+joining-more : {A : Type 0} {F : Form A} {m : A → A → A} {o now mid after codes codes' : Bytes} {at k c : ℕ} {b b' : Built Bool} {g : Bool} {a a' : A}
     → Coded F F c m → length now < 65536 → length mid ≡ length now → length after ≡ length now → Joining F o at now codes b a
     → KeepsPending now at b.end codes c mid k codes' → g ≡ F.fits a' → Wrote mid k (F.bytes a') g after b'.end → b'.fits ≡ (b.fits && g)
     → Joining F o at after codes' b' (m a a')
@@ -48,14 +48,14 @@ joining-more {F = F} {m} {o} {now} {mid} {after} {codes} {codes'} {at} {k} {c} {
 
 module _ {A : Type 0} (F : Form A) (ws : List (Word (A → A → A))) (operand : Bytes → Read A) where
   -- the chain from the first operand is the chain from here
-  pub record Going (s o : Bytes) (at n p : ℕ) (a : A) (out codes : Bytes) (all : Built) : Type 0 where
+  pub record Going (s o : Bytes) (at n p : ℕ) (a : A) (out codes : Bytes) (all : Built Bool) : Type 0 where
     pub thing : A
     pub turns : ℕ
     pub enough : length (drop all.place s) ≤ turns
     pub goes_on : chain ws operand n a (drop p s) ≡ chain ws operand turns thing (drop all.place s)
     pub joined : Joining F o at out codes all thing
 
-  pub record ChainSoFar (s : Bytes) (at : ℕ) (now : Bytes) (first : Built) (out codes : Bytes) (all : Built) : Type 0 where
+  pub record ChainSoFar (s : Bytes) (at : ℕ) (now : Bytes) (first : Built Bool) (out codes : Bytes) (all : Built Bool) : Type 0 where
     pub on : first.place ≤ all.place
     pub inside : all.place ≤ length s
     pub from : at ≤ all.end
@@ -65,7 +65,7 @@ module _ {A : Type 0} (F : Form A) (ws : List (Word (A → A → A))) (operand :
     pub goes : (o : Bytes) (a : A) (n : ℕ) → length (drop first.place s) ≤ n → Begun F o at now first a
         → Going s o at n first.place a out codes all
 
-  pub chain-start : (s now : Bytes) (at : ℕ) (first : Built) → first.place ≤ length s → at ≤ first.end → first.end ≤ 65536
+  pub chain-start : (s now : Bytes) (at : ℕ) (first : Built Bool) → first.place ≤ length s → at ≤ first.end → first.end ≤ 65536
       → length now < 65536 → ChainSoFar s at now first now [] first
   chain-start s now at first h l m k = record {
     on = omega arith;
@@ -94,14 +94,14 @@ module _ {A : Type 0} (F : Form A) (ws : List (Word (A → A → A))) (operand :
   turn_more zero a b s h l k = absurd (omega arith)
   turn_more (suc n) a b s h l k = let d : suc n - 1 ≡ n = omega arith in rw (l, k, d)
 
-module _ {A : Type 0} {F : Form A} {ws : List (Word (A → A → A))} {operand : Bytes → Read A} {s : Bytes} {at : ℕ} {now : Bytes} {first : Built}
-    {out codes : Bytes} {all : Built} (i : ChainSoFar F ws operand s at now first out codes all) where
+module _ {A : Type 0} {F : Form A} {ws : List (Word (A → A → A))} {operand : Bytes → Read A} {s : Bytes} {at : ℕ} {now : Bytes} {first : Built Bool}
+    {out codes : Bytes} {all : Built Bool} (i : ChainSoFar F ws operand s at now first out codes all) where
   left : length (drop all.place s) ≡ length s - all.place
   left = length-drop all.place s
 
   pub chain-ends : {m : ℕ → A → A → A} {after : Bytes} {end : ℕ} (l : Bool) → ((a : A) → l ≡ F.logical a) → SignRead F F m ws s all.place (Ok None)
       → after ≡ inserted out at all.end codes → end ≡ min (all.end + length codes) 65536
-      → ChainBuilds F ws operand s at now first after (Ok (record { condition = l; place = all.place; end = end; fits = all.fits }))
+      → ChainBuilds F ws operand s at now first after (Ok (record { kind = l; place = all.place; end = end; fits = all.fits }))
   unfolding Builds
   chain-ends l k g w j o a n h b =
       let x = i.goes o a n h b in
@@ -134,10 +134,10 @@ module _ {A : Type 0} {F : Form A} {ws : List (Word (A → A → A))} {operand :
         let so = left in
         x.goes_on ∙ turn-stop F ws operand x.turns x.thing (drop all.place s) (omega arith) (sym g.is) k
 
-    pub chain_more : {mid after codes' : Bytes} {k : ℕ} {next : Built} {both : Bool} → Keeps out at all.end codes c mid k codes'
+    pub chain_more : {room : ℕ} {mid after codes' : Bytes} {k : ℕ} {next : Built Bool} {both : Bool} → Keeps room out at all.end codes c mid k codes'
         → length mid ≡ length out → length after ≡ length mid → Builds F s mid k after (operand (drop t s)) (Ok next)
         → OnwardBuilt s t k (Ok next) → both ≡ (all.fits && next.fits)
-        → ChainSoFar F ws operand s at now first after codes' (record { condition = next.condition; place = next.place; end = next.end; fits = both })
+        → ChainSoFar F ws operand s at now first after codes' (record { kind = next.kind; place = next.place; end = next.end; fits = both })
     unfolding Builds
     chain_more {after = after} {k = k} {next = next} ks lm la v w hh =
         let kp = kept-pending i.top ks in

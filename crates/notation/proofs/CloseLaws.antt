@@ -15,40 +15,40 @@ use Rattle.notation.specs.Forms.{arith_form, condition_form, thing_form, is_logi
 -- ---- of which kind a thing is
 
 -- a condition that was read and written
-pub record Conditional (s out : Bytes) (at : ℕ) (after : Bytes) (g : Read Thing) (b : Built) : Type 0 where
+pub record Conditional (s out : Bytes) (at : ℕ) (after : Bytes) (g : Read Thing) (b : Built Bool) : Type 0 where
   pub condition : Condition
   pub is : g ≡ took (logical condition) (drop b.place s)
   pub fit_is : b.fits ≡ condition_form.fits condition
   pub wrote : Wrote out at (condition_form.bytes condition) b.fits after b.end
 
-pub record Arithmetical (s out : Bytes) (at : ℕ) (after : Bytes) (g : Read Thing) (b : Built) : Type 0 where
+pub record Arithmetical (s out : Bytes) (at : ℕ) (after : Bytes) (g : Read Thing) (b : Built Bool) : Type 0 where
   pub value : Arith
   pub is : g ≡ took (arithmetic value) (drop b.place s)
   pub fit_is : b.fits ≡ arith_form.fits value
   pub wrote : Wrote out at (arith_form.bytes value) b.fits after b.end
 
-module _ {s out : Bytes} {at : ℕ} {after : Bytes} {g : Read Thing} {b : Built} where
-  logical-of : (x : Thing) → g ≡ took x (drop b.place s) → b.condition ≡ is_logical x → b.fits ≡ thing_form.fits x
-      → Wrote out at (thing_form.bytes x) b.fits after b.end → b.condition ≡ true → Conditional s out at after g b
+module _ {s out : Bytes} {at : ℕ} {after : Bytes} {g : Read Thing} {b : Built Bool} where
+  logical-of : (x : Thing) → g ≡ took x (drop b.place s) → b.kind ≡ is_logical x → b.fits ≡ thing_form.fits x
+      → Wrote out at (thing_form.bytes x) b.fits after b.end → b.kind ≡ true → Conditional s out at after g b
   unfolding thing_form condition_form
   logical-of (arithmetic a) i k h w z = let y : ◌≡◌ {A = Bool} false true = sym k ∙ z in absurd (cc)
   logical-of (logical c) i k h w z = record { condition = c; is = i; fit_is = h; wrote = w }
 
-  arithmetic-of : (x : Thing) → g ≡ took x (drop b.place s) → b.condition ≡ is_logical x → b.fits ≡ thing_form.fits x
-      → Wrote out at (thing_form.bytes x) b.fits after b.end → b.condition ≡ false → Arithmetical s out at after g b
+  arithmetic-of : (x : Thing) → g ≡ took x (drop b.place s) → b.kind ≡ is_logical x → b.fits ≡ thing_form.fits x
+      → Wrote out at (thing_form.bytes x) b.fits after b.end → b.kind ≡ false → Arithmetical s out at after g b
   unfolding thing_form arith_form
   arithmetic-of (arithmetic a) i k h w z = record { value = a; is = i; fit_is = h; wrote = w }
   arithmetic-of (logical c) i k h w z = let y : ◌≡◌ {A = Bool} true false = sym k ∙ z in absurd (cc)
 
   module _ (m : Made thing_form s out at after g b) where
-    thing-kind : b.condition ≡ is_logical m.thing
+    thing-kind : b.kind ≡ is_logical m.thing
     unfolding thing_form
     thing-kind = m.kind
 
-    pub made_logical : b.condition ≡ true → Conditional s out at after g b
+    pub made_logical : b.kind ≡ true → Conditional s out at after g b
     made_logical z = logical-of m.thing m.is thing-kind m.fit_is m.wrote z
 
-    pub made_arithmetic : b.condition ≡ false → Arithmetical s out at after g b
+    pub made_arithmetic : b.kind ≡ false → Arithmetical s out at after g b
     made_arithmetic z = arithmetic-of m.thing m.is thing-kind m.fit_is m.wrote z
 
 pub within-arithmetic : Within arith_form thing_form arithmetic
@@ -69,12 +69,12 @@ required-no : {g : Read Thing} {a : Arith} {r : Bytes} → g ≡ took (arithmeti
 unfolding then_read is_condition on_thing
 required-no h = rw h
 
-module _ {s out : Bytes} {at : ℕ} {after : Bytes} {g : Read Thing} {x : Built} (m : Made thing_form s out at after g x) where
-  pub requires_yes : x.condition ≡ true → Made condition_form s out at after (then_read g is_condition) x
+module _ {s out : Bytes} {at : ℕ} {after : Bytes} {g : Read Thing} {x : Built Bool} (m : Made thing_form s out at after g x) where
+  pub requires_yes : x.kind ≡ true → Made condition_form s out at after (then_read g is_condition) x
   unfolding condition_form
   requires_yes j =
       let c = made_logical m j in
       record { thing = c.condition; is = required-yes c.is; kind = j; fit_is = c.fit_is; wrote = c.wrote }
 
-  pub requires_no : (t : ℕ) → x.condition ≡ false → drop t s ≡ spaces (drop x.place s) → then_read g is_condition ≡ stop (drop t s)
+  pub requires_no : (t : ℕ) → x.kind ≡ false → drop t s ≡ spaces (drop x.place s) → then_read g is_condition ≡ stop (drop t s)
   requires_no t j k = required-no (made_arithmetic m j).is ∙ ap stop (sym k)

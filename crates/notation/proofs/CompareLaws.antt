@@ -21,7 +21,7 @@ use Rattle.notation.proofs.CloseLaws.{made_logical, made_arithmetic}
 -- ---- arithmetic that is compared
 
 -- the code's byte is put before what stands written, and the other side is written behind
-begun_more : {A B : Type 0} {F : Form A} {G : Form B} {m : A → A → B} {o now mid after : Bytes} {at k c : ℕ} {b b' : Built} {g : Bool} {a a' : A}
+begun_more : {A B : Type 0} {F : Form A} {G : Form B} {m : A → A → B} {o now mid after : Bytes} {at k c : ℕ} {b b' : Built Bool} {g : Bool} {a a' : A}
     → Coded F G c m → length now < 65536 → length mid ≡ length now → length after ≡ length now → Begun F o at now b a
     → mid ≡ inserted now at b.end (c ∷ []) → k ≡ min (b.end + 1) 65536 → g ≡ F.fits a' → Wrote mid k (F.bytes a') g after b'.end → b'.fits ≡ (b.fits && g)
     → Begun G o at after b' (m a a')
@@ -37,22 +37,22 @@ begun_more {F = F} {G} {m} {o} {now} {mid} {after} {at} {k} {c} {b} {b'} {g} {a}
 
 module _ {s : Bytes} {p : ℕ} (d : ℕ) where
   pub compare-absent : {o now : Bytes} {at end : ℕ} {fits : Bool} {a : Arith} → SignRead arith_form condition_form rel_of comparisons s p (Ok None)
-      → Begun arith_form o at now (record { condition = false; place = p; end = end; fits = fits }) a
-      → Made thing_form s o at now (comparison (factor d) a (drop p s)) (record { condition = false; place = p; end = end; fits = fits })
+      → Begun arith_form o at now (record { kind = false; place = p; end = end; fits = fits }) a
+      → Made thing_form s o at now (comparison (factor d) a (drop p s)) (record { kind = false; place = p; end = end; fits = fits })
   unfolding comparison on_link thing_form arith_form
   compare-absent {a = a} g b =
       let k = sym g.is in
       record { thing = arithmetic a; is = rw k; kind = refl; fit_is = b.fit_is; wrote = b.wrote }
 
-  pub compare-took : {c q : ℕ} → SignRead arith_form condition_form rel_of comparisons s p (Ok (Some (c, q))) → {o m mid after : Bytes} {at k : ℕ} {left right : Built} {both : Bool} {a : Arith} → length m < 65536
+  pub compare-took : {c q : ℕ} → SignRead arith_form condition_form rel_of comparisons s p (Ok (Some (c, q))) → {o m mid after : Bytes} {at k : ℕ} {left right : Built Bool} {both : Bool} {a : Arith} → length m < 65536
       → length mid ≡ length m → length after ≡ length m → Begun arith_form o at m left a → mid ≡ inserted m at left.end (c ∷ []) → k ≡ min (left.end + 1) 65536
       → Made arith_form s mid k after (arith_at d 2 (drop q s)) right → both ≡ (left.fits && right.fits)
-      → Made thing_form s o at after (comparison (factor d) a (drop p s)) (record { condition = true; place = right.place; end = right.end; fits = both })
+      → Made thing_form s o at after (comparison (factor d) a (drop p s)) (record { kind = true; place = right.place; end = right.end; fits = both })
   unfolding comparison on_link map_read thing_form condition_form
   compare-took {c = c} {q} g {at = at} {right = right} {both = both} {a = a} sm lm la u iw ik v hh =
       let k' : sum (factor d) (drop q s) ≡ took v.thing (drop right.place s) = sum_level d (drop q s) ∙ v.is in
       let j = sym g.is in
-      let w = begun_more {b' = record { condition = true; place = right.place; end = right.end; fits = both }} g.fits.2 sm lm la u iw ik v.fit_is v.wrote hh in
+      let w = begun_more {b' = record { kind = true; place = right.place; end = right.end; fits = both }} g.fits.2 sm lm la u iw ik v.fit_is v.wrote hh in
       record { thing = logical (rel_of c a v.thing); is = rw (j, k'); kind = refl; fit_is = w.fit_is; wrote = w.wrote }
 
 -- ---- the arithmetic that a first operand begins
@@ -83,8 +83,8 @@ begins-onward : (d : ℕ) {g : Read Thing} {a : Arith} {r : Bytes} → g ≡ too
 unfolding begins then_read on_thing
 begins-onward d h = rw h
 
-module _ {s : Bytes} (d : ℕ) {o : Bytes} {at : ℕ} {after : Bytes} {g : Read Thing} {b : Built} (m : Made thing_form s o at after g b) where
-  pub begins_logical : b.condition ≡ true → Made thing_form s o at after (begins d g) b
+module _ {s : Bytes} (d : ℕ) {o : Bytes} {at : ℕ} {after : Bytes} {g : Read Thing} {b : Built Bool} (m : Made thing_form s o at after g b) where
+  pub begins_logical : b.kind ≡ true → Made thing_form s o at after (begins d g) b
   unfolding thing_form condition_form
   begins_logical j =
       let c = made_logical m j in
@@ -96,7 +96,7 @@ module _ {s : Bytes} (d : ℕ) {o : Bytes} {at : ℕ} {after : Bytes} {g : Read 
     pub is : begins d g ≡ onward (factor d) value (drop b.place s)
     pub begun : Begun arith_form o at after b value
 
-  pub begins-arithmetic : b.condition ≡ false → length o ≡ length after → Onwards
+  pub begins-arithmetic : b.kind ≡ false → length o ≡ length after → Onwards
   begins-arithmetic j r =
       let c = made_arithmetic m j in
       record { value = c.value; is = begins-onward d c.is; begun = record { fit_is = c.fit_is; wrote = c.wrote; room = r } }

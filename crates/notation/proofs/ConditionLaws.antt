@@ -13,7 +13,7 @@ use Rattle.text.specs.Convert.{condition_fits}
 use Rattle.text.specs.Lines.{word_only}
 use Rattle.text.specs.Words.{bytes, Read, stop, took, then_read, map_read, spaces, apart, word, following, whole, or_none, or_whole, spell, keyword}
 use Rattle.text.specs.Notation.{Thing, arithmetic, logical, on_thing, is_condition, truths, too_deep, closed, factor, first, start, atom, atomic, thing, either, chain, conjunctions}
-use Rattle.scan.specs.Reading.{read_of, unit}
+use Rattle.scan.specs.Reading.{passed}
 use Rattle.scan.specs.Writing.{Wrote, Made}
 use Rattle.std.specs.Prelude.{Result, Ok, Err}
 use Rattle.scan.proofs.WordLaws.{here, map-apart, spell-map}
@@ -37,16 +37,16 @@ false-word : (s : Bytes) → keyword truths (102 ∷ s) ≡ map_read (λ _. logi
 unfolding keyword truths word_only spaces spell following or_none whole or_whole
 false-word s = ap (λ g. then_read g apart) (spell-map (bytes "alse") (logical never) s) ∙ then-apart (logical never) (spell (word (bytes "alse") tt ∷ []) s)
 
-module _ (s : Bytes) {g : Read (Unit {0})} (x : Result (ℕ × ℕ) ℕ) (h : read_of unit s x ≡ g) (c : Condition) where
+module _ (s : Bytes) {g : Read (Unit {0})} (x : Result ℕ ℕ) (h : passed s x ≡ g) (c : Condition) where
   pub truth_stop : {q : ℕ} → x ≡ Err q → map_read (λ _. logical c) g ≡ stop (drop q s)
   unfolding map_read
-  truth_stop {q} e = let k : g ≡ stop (drop q s) = sym h ∙ ap (read_of unit s) e in rw k
+  truth_stop {q} e = let k : g ≡ stop (drop q s) = sym h ∙ ap (passed s) e in rw k
 
-  pub truth_took : {out after : Bytes} {at v q e code : ℕ} → x ≡ Ok (v, q) → encode_condition c ≡ code ∷ [] → condition_fits c ≡ true
-      → after ≡ set out at code → e ≡ min (at + 1) 65536 → Made thing_form s out at after (map_read (λ _. logical c) g) (record { condition = true; place = q; end = e; fits = true })
+  pub truth_took : {out after : Bytes} {at q e code : ℕ} → x ≡ Ok q → encode_condition c ≡ code ∷ [] → condition_fits c ≡ true
+      → after ≡ set out at code → e ≡ min (at + 1) 65536 → Made thing_form s out at after (map_read (λ _. logical c) g) (record { kind = true; place = q; end = e; fits = true })
   unfolding map_read thing_form
   truth_took {out} {after} {at} {q = q} {e} {code} z b f w m =
-      let k : g ≡ took tt (drop q s) = sym h ∙ ap (read_of unit s) z in
+      let k : g ≡ took tt (drop q s) = sym h ∙ ap (passed s) z in
       record {
         thing = logical c;
         is = rw k;

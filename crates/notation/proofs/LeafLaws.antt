@@ -49,7 +49,7 @@ module _ (s : Bytes) (k : ℕ → ℤ) (g : Read ℕ) {x : Result (ℕ × ℕ) �
   constant_stop {q} e = let z : g ≡ stop (drop q s) = map-stop (λ n. value_code (k n)) g (sym (ap (read_of same s) e) ∙ h) in rw z
 
   pub constant_made : (out after : Bytes) (at v q e : ℕ) → x ≡ Ok (v, q) → (v < 4294967296 → after ≡ sets out at (16 ∷ four v)) → e ≡ min (at + 5) 65536
-      → Made arith_form s out at after (map_read (λ n. constant (k n)) g) (record { condition = false; place = q; end = e; fits = ltb v 4294967296 })
+      → Made arith_form s out at after (map_read (λ n. constant (k n)) g) (record { kind = false; place = q; end = e; fits = ltb v 4294967296 })
   unfolding map_read arith_form arith_fits encode_arith
   constant_made out after at v q e t w m =
       let z = map-took (λ n. value_code (k n)) g (sym (ap (read_of same s) t) ∙ h) in
@@ -73,7 +73,7 @@ module _ (s : Bytes) (g : Read ℕ) {x : Result (ℕ × ℕ) ℕ} (h : read_of s
   register_stop {q} e = let z : g ≡ stop (drop q s) = map-stop capped g (sym (ap (read_of same s) e) ∙ h) in rw z
 
   pub register_made : (out after : Bytes) (at v q e : ℕ) → x ≡ Ok (v, q) → (v < 256 → after ≡ sets out at (17 ∷ v ∷ [])) → e ≡ min (at + 2) 65536
-      → Made arith_form s out at after (map_read register g) (record { condition = false; place = q; end = e; fits = ltb v 256 })
+      → Made arith_form s out at after (map_read register g) (record { kind = false; place = q; end = e; fits = ltb v 256 })
   unfolding map_read arith_form arith_fits fits_byte encode_arith
   register_made out after at v q e t w m =
       let z = map-took capped g (sym (ap (read_of same s) t) ∙ h) in

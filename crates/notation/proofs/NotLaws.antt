@@ -66,7 +66,7 @@ some-counted (suc n) h = omega arith
 
 -- ---- an operand with them
 
-module _ (s : Bytes) {some : Bool} (x : Built) where
+module _ (s : Bytes) {some : Bool} (x : Built Bool) where
   pub negates-none : some ≡ false → Negates s some x (Ok x)
   unfolding nots Builds
   negates-none z out mid after at e n g l m k w b =
@@ -80,14 +80,14 @@ module _ (s : Bytes) {some : Bool} (x : Built) where
         wrote = wrote-append out mid after at e x.end [] (thing_form.bytes b.thing) true x.fits l m w' b.wrote;
       })
 
-  pub negates-some : (y : Result Built ℕ) → some ≡ true → Requires s x y → Negates s some x y
+  pub negates-some : (y : Result (Built Bool) ℕ) → some ≡ true → Requires s x y → Negates s some x y
   unfolding Builds map_read thing_form condition_form
   negates-some y z h out mid after at e n g l m k w b =
       let n1 : n ≡ suc (n - 1) = some-counted n (sym z ∙ k) in
       let w' : Wrote out at (replicate (suc (n - 1)) 34) true mid e = subst (λ i. Wrote out at (replicate i 34) true mid e) n1 w in
       subst (λ i. Builds thing_form s out at after (nots i g) y) (sym n1) (taken (n - 1) y w' (h mid e after g b))
     where
-      taken : (i : ℕ) (y : Result Built ℕ) → Wrote out at (replicate (suc i) 34) true mid e → Builds condition_form s mid e after (then_read g is_condition) y
+      taken : (i : ℕ) (y : Result (Built Bool) ℕ) → Wrote out at (replicate (suc i) 34) true mid e → Builds condition_form s mid e after (then_read g is_condition) y
           → Builds thing_form s out at after (nots (suc i) g) y
       taken i (Ok r) w' m' = record {
         thing = logical (negations (suc i) m'.thing);

@@ -73,20 +73,20 @@ begins d g = then_read g (λ x r. on_thing x (λ a. onward (factor d) a r) (λ c
 -- ---- what a reader owes that goes on
 
 -- further operands behind one that stands written, whatever bounds the turns
-abbrev pub ChainBuilds : {A : Type 0} → Form A → List (Word (A → A → A)) → (Bytes → Read A) → Bytes → ℕ → Bytes → Built → Bytes → Result Built ℕ → Type 0
+abbrev pub ChainBuilds : {A : Type 0} → Form A → List (Word (A → A → A)) → (Bytes → Read A) → Bytes → ℕ → Bytes → Built Bool → Bytes → Result (Built Bool) ℕ → Type 0
 ChainBuilds {A} F ws operand s at now first after r =
     (o : Bytes) (a : A) (n : ℕ) → length (drop first.place s) ≤ n → Begun F o at now first a
     → Builds F s o at after (chain ws operand n a (drop first.place s)) r
 
 -- what an opening parenthesis began, closed
-abbrev pub Closes : {A : Type 0} → Form A → Bytes → Built → Result Built ℕ → Type 0
+abbrev pub Closes : {A : Type 0} → Form A → Bytes → Built Bool → Result (Built Bool) ℕ → Type 0
 Closes {A} F s x r = (out : Bytes) (at : ℕ) (after : Bytes) (g : Read A) → Made F s out at after g x → Builds F s out at after (closed g) r
 
 -- a condition, where one is due
-abbrev pub Requires : Bytes → Built → Result Built ℕ → Type 0
+abbrev pub Requires : Bytes → Built Bool → Result (Built Bool) ℕ → Type 0
 Requires s x r = (out : Bytes) (at : ℕ) (after : Bytes) (g : Read Thing) → Made thing_form s out at after g x
     → Builds condition_form s out at after (then_read g is_condition) r
 
 -- no place and no end goes back
-abbrev pub KeepsOn : Bytes → Built → Result Built ℕ → Type 0
+abbrev pub KeepsOn : Bytes → Built Bool → Result (Built Bool) ℕ → Type 0
 KeepsOn s x r = (p at : ℕ) → OnwardBuilt s p at (Ok x) → OnwardBuilt s p at r

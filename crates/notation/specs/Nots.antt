@@ -29,6 +29,6 @@ pub record NotsRead (s : Bytes) (p : ℕ) (out : Bytes) (at : ℕ) (after : Byte
   pub top : e ≤ 65536
 
 -- what follows them, and them
-abbrev pub Negates : Bytes → Bool → Built → Result Built ℕ → Type 0
+abbrev pub Negates : Bytes → Bool → Built Bool → Result (Built Bool) ℕ → Type 0
 Negates s some x r = (out mid after : Bytes) (at e n : ℕ) (g : Read Thing) → length out ≡ length mid → length mid < 65536 → some ≡ ltb 0 n
     → Wrote out at (replicate n 34) true mid e → Made thing_form s mid e after g x → Builds thing_form s out at after (nots n g) r

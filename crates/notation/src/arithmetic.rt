@@ -1,5 +1,8 @@
 // Arithmetic: read from left to right, written operator first. The operands are written one behind the other, and the operators that
 // join them are kept beside until what stands left of them is moved on to make room for all of these.
+//
+// The text and a place in it, and the output and a place in it, stay apart, since each call has other places: a struct would be made anew
+// at each. 16 and 17 are the sheet's own bytes, written as they are: an enum would only be turned back into them.
 ghost use Rattle.std.specs.Prelude.{◌≡◌, ℕ, ◌-◌, ◌≤◌, ◌<◌, ℤ, length, drop, get_or};
 ghost use Rattle.rules.specs.Format.{Bytes};
 ghost use Rattle.rules.specs.Program.{Arith, constant, register};
@@ -12,13 +15,17 @@ ghost use Rattle.notation.specs.Forms.{arith_form, ops_at, arith_at, ChainBuilds
 use crate::closing::closed_at;
 use crate::signs::operator_at;
 use scan::{
-    Built, TOO_BIG, Waiting, digits_at, negated, number_at, past, positive, put_bytes,
+    Built, MOST_KEPT, TOO_BIG, Waiting, digits_at, negated, number_at, past, positive, put_bytes,
     put_constant, spaces_end,
 };
 
 // A constant that was read.
 #[tactic(auto, using(crate::proofs::LeafLaws::constants), unfolding(scan::specs::Writing::Builds))]
-fn write_constant(out: &mut [u8], at: usize, x: Result<(u64, usize), usize>) -> Result<Built, usize>
+fn write_constant(
+    out: &mut [u8],
+    at: usize,
+    x: Result<(u64, usize), usize>,
+) -> Result<Built<bool>, usize>
     requires { at ≤ 65536 }
     ensures builds { (s : Bytes) (k : ℕ → ℤ) (g : Read ℕ) → read_of same s x ≡ map_read (λ n. value_code (k n)) g
         → Builds arith_form s out.old at out.new (map_read (λ n. constant (k n)) g) result }
@@ -32,7 +39,7 @@ fn write_constant(out: &mut [u8], at: usize, x: Result<(u64, usize), usize>) -> 
         put_constant(out, at, v);
     }
     Ok(Built {
-        condition: false,
+        kind: false,
         place,
         end: past(at, 5),
         fits,
@@ -41,7 +48,11 @@ fn write_constant(out: &mut [u8], at: usize, x: Result<(u64, usize), usize>) -> 
 
 // A register whose number was read.
 #[tactic(auto, using(crate::proofs::LeafLaws::registers), unfolding(scan::specs::Writing::Builds))]
-fn write_register(out: &mut [u8], at: usize, x: Result<(u64, usize), usize>) -> Result<Built, usize>
+fn write_register(
+    out: &mut [u8],
+    at: usize,
+    x: Result<(u64, usize), usize>,
+) -> Result<Built<bool>, usize>
     requires { at ≤ 65536 }
     ensures builds { (s : Bytes) (g : Read ℕ) → read_of same s x ≡ map_read capped g
         → Builds arith_form s out.old at out.new (map_read register g) result }
@@ -50,21 +61,20 @@ fn write_register(out: &mut [u8], at: usize, x: Result<(u64, usize), usize>) -> 
     ensures top { built_end at result ≤ 65536 }
 {
     let (v, place) = x?;
-    let fits = v < 256;
-    if fits {
-        put_bytes(out, at, &[17, v as u8]);
+    if let Ok(b) = u8::try_from(v) {
+        put_bytes(out, at, &[17, b]);
     }
     Ok(Built {
-        condition: false,
+        kind: false,
         place,
         end: past(at, 2),
-        fits,
+        fits: v < 256,
     })
 }
 
 // A constant or a register, right here.
 #[tactic(auto, using(scan::proofs::WordLaws::here), unfolding(text::specs::Notation::operand))]
-fn leaf_at(s: &[u8], p: usize, out: &mut [u8], at: usize) -> Result<Built, usize>
+fn leaf_at(s: &[u8], p: usize, out: &mut [u8], at: usize) -> Result<Built<bool>, usize>
     requires { (p < length s.now) × (at ≤ 65536) }
     ensures builds { (inside : Bytes → Read Arith) → (get_or s.now p 0 ≡ 40 → ⊥)
         → Builds arith_form s.now out.old at out.new (operand inside (drop p s.now)) result }
@@ -77,7 +87,7 @@ fn leaf_at(s: &[u8], p: usize, out: &mut [u8], at: usize) -> Result<Built, usize
     }
 }
 
-// A factor, a product or a sum, by its level.
+// A factor, a product or a sum, by its level: a number, as `Forms.arith_at` has it; each level calls the one below.
 #[tactic(auto, using(crate::proofs::ArithLaws::arith_from), unfolding(crate::proofs::Opened::operands))]
 #[cycle(arith_at_chain_at_factor_at)]
 pub(crate) fn arith_at(
@@ -87,7 +97,7 @@ pub(crate) fn arith_at(
     level: usize,
     out: &mut [u8],
     at: usize,
-) -> Result<Built, usize>
+) -> Result<Built<bool>, usize>
     requires { (p ≤ length s.now) × (at ≤ 65536) × (length out.old < 65536) }
     ensures builds { Builds arith_form s.now out.old at out.new (arith_at depth level (drop p s.now)) result }
     ensures onward { OnwardBuilt s.now p at result }
@@ -99,21 +109,21 @@ pub(crate) fn arith_at(
     chain_at(s, first, depth, level, out, at)
 }
 
-// The operands that follow one.
+// The operands that follow one; it goes on while a sign stands next.
 #[cycle(arith_at_chain_at_factor_at)]
 pub(crate) fn chain_at(
     s: &[u8],
-    first: Built,
+    first: Built<bool>,
     depth: usize,
     level: usize,
     out: &mut [u8],
     at: usize,
-) -> Result<Built, usize>
+) -> Result<Built<bool>, usize>
     requires { (first.place ≤ length s.now) × (1 ≤ level) × (at ≤ first.end) × (first.end ≤ 65536) × (length out.old < 65536) }
     ensures builds { ChainBuilds arith_form (ops_at level) (arith_at depth (level - 1)) s.now at out.old first out.new result }
     ensures onward { OnwardBuilt s.now first.place at result }
 {
-    let mut waiting = Waiting::none();
+    let mut waiting = Waiting::<MOST_KEPT>::none();
     let mut all = first;
     while let Some((code, q)) = operator_at(s, all.place, level) {
         let from = waiting.keep(out, at, all.end, code);
@@ -125,7 +135,7 @@ pub(crate) fn chain_at(
     }
     let end = waiting.insert(out, at, all.end);
     Ok(Built {
-        condition: false,
+        kind: false,
         end,
         ..all
     })
@@ -134,7 +144,13 @@ pub(crate) fn chain_at(
 // What is in parentheses, a constant or a register.
 #[tactic(auto, using(scan::proofs::WordLaws::places, crate::proofs::ArithLaws::factors), unfolding(crate::proofs::Opened::factors))]
 #[cycle(arith_at_chain_at_factor_at)]
-fn factor_at(s: &[u8], p: usize, depth: usize, out: &mut [u8], at: usize) -> Result<Built, usize>
+fn factor_at(
+    s: &[u8],
+    p: usize,
+    depth: usize,
+    out: &mut [u8],
+    at: usize,
+) -> Result<Built<bool>, usize>
     requires { (p ≤ length s.now) × (at ≤ 65536) × (length out.old < 65536) }
     ensures builds { Builds arith_form s.now out.old at out.new (arith_at depth 0 (drop p s.now)) result }
     ensures onward { OnwardBuilt s.now p at result }

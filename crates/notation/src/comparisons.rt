@@ -1,4 +1,7 @@
 // Where a condition is due: arithmetic that a first operand begins, and behind it a comparison with more arithmetic, or none.
+//
+// The text and a place in it, and the output and a place in it, stay apart, since each call has other places: a struct would be made anew
+// at each.
 ghost use Rattle.std.specs.Prelude.{◌≡◌, ◌≤◌, ◌<◌, length, drop};
 ghost use Rattle.rules.specs.Format.{Bytes};
 ghost use Rattle.rules.specs.Program.{Arith};
@@ -15,11 +18,11 @@ use scan::{Built, insert};
 #[tactic(auto, using(crate::proofs::ArithLaws::sum_level), unfolding(crate::proofs::Opened::compared))]
 fn compare_at(
     s: &[u8],
-    left: Built,
+    left: Built<bool>,
     depth: usize,
     out: &mut [u8],
     at: usize,
-) -> Result<Built, usize>
+) -> Result<Built<bool>, usize>
     requires { (left.place ≤ length s.now) × (at ≤ left.end) × (left.end ≤ 65536) × (length out.old < 65536) }
     ensures builds { (o : Bytes) (a : Arith) → Begun arith_form o at out.old left a
         → Builds thing_form s.now o at out.new (comparison (factor depth) a (drop left.place s.now)) result }
@@ -27,14 +30,14 @@ fn compare_at(
 {
     match comparison_at(s, left.place)? {
         None => Ok(Built {
-            condition: false,
+            kind: false,
             ..left
         }),
         Some((code, place)) => {
             let from = insert(out, at, left.end, &[code]);
             let right = arith_at(s, place, depth, 2, out, from)?;
             Ok(Built {
-                condition: true,
+                kind: true,
                 fits: left.fits && right.fits,
                 ..right
             })
@@ -46,11 +49,11 @@ fn compare_at(
 #[tactic(auto, using(crate::proofs::CompareLaws::onward_is), unfolding(crate::proofs::Opened::operands))]
 fn onward_at(
     s: &[u8],
-    first: Built,
+    first: Built<bool>,
     depth: usize,
     out: &mut [u8],
     at: usize,
-) -> Result<Built, usize>
+) -> Result<Built<bool>, usize>
     requires { (first.place ≤ length s.now) × (at ≤ first.end) × (first.end ≤ 65536) × (length out.old < 65536) }
     ensures builds { (o : Bytes) (a : Arith) → Begun arith_form o at out.old first a
         → Builds thing_form s.now o at out.new (onward (factor depth) a (drop first.place s.now)) result }
@@ -64,17 +67,17 @@ fn onward_at(
 // A first operand that is written and, where it is arithmetic, all that it begins.
 pub(crate) fn begun_at(
     s: &[u8],
-    first: Built,
+    first: Built<bool>,
     depth: usize,
     out: &mut [u8],
     at: usize,
-) -> Result<Built, usize>
+) -> Result<Built<bool>, usize>
     requires { (first.place ≤ length s.now) × (at ≤ first.end) × (first.end ≤ 65536) × (length out.old < 65536) }
     ensures builds { (o : Bytes) (g : Read Thing) → length o ≡ length out.old → Made thing_form s.now o at out.old g first
         → Builds thing_form s.now o at out.new (begins depth g) result }
     ensures onward { OnwardBuilt s.now first.place at result }
 {
-    if first.condition {
+    if first.kind {
         Ok(first)
     } else {
         onward_at(s, first, depth, out, at)

@@ -1,4 +1,7 @@
 // Conditions: operands of `&&` from left to right, each with the `!`s before it.
+//
+// The text and a place in it, and the output and a place in it, stay apart, since each call has other places: a struct would be made anew
+// at each. 32 to 34 are the sheet's own bytes, written as they are: an enum would only be turned back into them.
 ghost use Rattle.std.specs.Prelude.{◌≡◌, Bool, [], ◌∷◌, ◌≤◌, ◌<◌, length, drop, get_or};
 ghost use Rattle.rules.specs.Format.{Bytes};
 ghost use Rattle.rules.specs.Encoding.{encode_condition};
@@ -15,7 +18,7 @@ use crate::arithmetic::arith_at;
 use crate::closing::{closed_at, condition_only};
 use crate::comparisons::begun_at;
 use crate::signs::conjunction_at;
-use scan::{Built, Waiting, past, put, spaces_end, word_only_at};
+use scan::{Built, MOST_KEPT, Waiting, past, put, spaces_end, word_only_at};
 
 // `true` or `false`.
 #[tactic(auto, using(crate::proofs::ConditionLaws::truths_written), unfolding(scan::specs::Writing::Builds))]
@@ -26,16 +29,16 @@ fn truth_at(
     code: u8,
     out: &mut [u8],
     at: usize,
-) -> Result<Built, usize>
+) -> Result<Built<bool>, usize>
     requires { (p ≤ length s.now) × (0 < length w.now) × (at ≤ 65536) }
     ensures builds { (c : Condition) → encode_condition c ≡ code ∷ [] → condition_fits c ≡ Bool.true
         → Builds thing_form s.now out.old at out.new (map_read (λ _. logical c) (word_only w.now (drop p s.now))) result }
     ensures onward { OnwardBuilt s.now p at result }
 {
-    let (_, place) = word_only_at(s, p, w)?;
+    let place = word_only_at(s, p, w)?;
     put(out, at, code);
     Ok(Built {
-        condition: true,
+        kind: true,
         place,
         end: past(at, 1),
         fits: true,
@@ -49,7 +52,7 @@ fn word_or_leaf_at(
     depth: usize,
     out: &mut [u8],
     at: usize,
-) -> Result<Built, usize>
+) -> Result<Built<bool>, usize>
     requires { (p < length s.now) × (at ≤ 65536) × (length out.old < 65536) }
     ensures builds { (inside : Bytes → Read Thing) → (get_or s.now p 0 ≡ 40 → ⊥)
         → Builds thing_form s.now out.old at out.new (first inside (factor depth) (drop p s.now)) result }
@@ -70,7 +73,7 @@ pub struct Nots {
     pub some: bool,
 }
 
-// Spaces and `!`s.
+// Spaces and `!`s; it goes on while a `!` stands next.
 fn nots_at(s: &[u8], p: usize, out: &mut [u8], at: usize) -> Nots
     requires { (p ≤ length s.now) × (at ≤ 65536) × (length out.old < 65536) }
     ensures { NotsRead s.now p out.old at out.new result.place result.end result.some }
@@ -92,7 +95,7 @@ fn nots_at(s: &[u8], p: usize, out: &mut [u8], at: usize) -> Nots
 }
 
 // `!` takes a condition.
-fn negated_by(s: &[u8], some: bool, x: Built) -> Result<Built, usize>
+fn negated_by(s: &[u8], some: bool, x: Built<bool>) -> Result<Built<bool>, usize>
     requires { x.place ≤ length s.now }
     ensures negates { Negates s.now some x result }
     ensures onward { KeepsOn s.now x result }
@@ -103,7 +106,13 @@ fn negated_by(s: &[u8], some: bool, x: Built) -> Result<Built, usize>
 // The first operand, from its first byte.
 #[tactic(auto, using(scan::proofs::WordLaws::places, crate::proofs::ConditionLaws::groups), unfolding(crate::proofs::Opened::firsts))]
 #[cycle(atom_at_conditions_at_either_at_first_at)]
-fn first_at(s: &[u8], p: usize, depth: usize, out: &mut [u8], at: usize) -> Result<Built, usize>
+fn first_at(
+    s: &[u8],
+    p: usize,
+    depth: usize,
+    out: &mut [u8],
+    at: usize,
+) -> Result<Built<bool>, usize>
     requires { (p ≤ length s.now) × (at ≤ 65536) × (length out.old < 65536) }
     ensures builds { Builds thing_form s.now out.old at out.new (first (group_at depth) (factor depth) (drop p s.now)) result }
     ensures onward { OnwardBuilt s.now p at result }
@@ -121,7 +130,13 @@ fn first_at(s: &[u8], p: usize, depth: usize, out: &mut [u8], at: usize) -> Resu
 
 // One operand of `&&`, with the `!`s and spaces before it.
 #[cycle(atom_at_conditions_at_either_at_first_at)]
-fn atom_at(s: &[u8], p: usize, depth: usize, out: &mut [u8], at: usize) -> Result<Built, usize>
+fn atom_at(
+    s: &[u8],
+    p: usize,
+    depth: usize,
+    out: &mut [u8],
+    at: usize,
+) -> Result<Built<bool>, usize>
     requires { (p ≤ length s.now) × (at ≤ 65536) × (length out.old < 65536) }
     ensures builds { Builds thing_form s.now out.old at out.new (atom (start_at depth) (drop p s.now)) result }
     ensures onward { OnwardBuilt s.now p at result }
@@ -135,7 +150,13 @@ fn atom_at(s: &[u8], p: usize, depth: usize, out: &mut [u8], at: usize) -> Resul
 // One operand of `&&`: a condition.
 #[tactic(auto, using(crate::proofs::ConditionLaws::atomic_is), unfolding(crate::proofs::Opened::operands))]
 #[cycle(atom_at_conditions_at_either_at_first_at)]
-fn operand_at(s: &[u8], p: usize, depth: usize, out: &mut [u8], at: usize) -> Result<Built, usize>
+fn operand_at(
+    s: &[u8],
+    p: usize,
+    depth: usize,
+    out: &mut [u8],
+    at: usize,
+) -> Result<Built<bool>, usize>
     requires { (p ≤ length s.now) × (at ≤ 65536) × (length out.old < 65536) }
     ensures builds { Builds condition_form s.now out.old at out.new (atomic (start_at depth) (drop p s.now)) result }
     ensures onward { OnwardBuilt s.now p at result }
@@ -144,21 +165,22 @@ fn operand_at(s: &[u8], p: usize, depth: usize, out: &mut [u8], at: usize) -> Re
     condition_only(s, atom)
 }
 
-// The operands of `&&` that follow one. The loop is that of `chain_at` over other readers, which call it again. One loop for both would
-// be handed the readers as closures, each with its clauses written out where it is made, and so be longer than the two.
+// The operands of `&&` that follow one, while a sign stands next. The loop is that of `chain_at` over other readers, which call it again.
+// One loop for both would be handed the readers as closures, each with its clauses written out where it is made, and so be longer than the
+// two.
 #[cycle(atom_at_conditions_at_either_at_first_at)]
 fn conditions_at(
     s: &[u8],
-    first: Built,
+    first: Built<bool>,
     depth: usize,
     out: &mut [u8],
     at: usize,
-) -> Result<Built, usize>
+) -> Result<Built<bool>, usize>
     requires { (first.place ≤ length s.now) × (at ≤ first.end) × (first.end ≤ 65536) × (length out.old < 65536) }
     ensures builds { ChainBuilds condition_form conjunctions (atomic (start_at depth)) s.now at out.old first out.new result }
     ensures onward { OnwardBuilt s.now first.place at result }
 {
-    let mut waiting = Waiting::none();
+    let mut waiting = Waiting::<MOST_KEPT>::none();
     let mut all = first;
     while let Some((code, q)) = conjunction_at(s, all.place)? {
         let from = waiting.keep(out, at, all.end, code);
@@ -170,7 +192,7 @@ fn conditions_at(
     }
     let end = waiting.insert(out, at, all.end);
     Ok(Built {
-        condition: true,
+        kind: true,
         end,
         ..all
     })
@@ -185,13 +207,13 @@ pub(crate) fn either_at(
     depth: usize,
     out: &mut [u8],
     at: usize,
-) -> Result<Built, usize>
+) -> Result<Built<bool>, usize>
     requires { (p ≤ length s.now) × (at ≤ 65536) × (length out.old < 65536) }
     ensures builds { Builds thing_form s.now out.old at out.new (either depth (drop p s.now)) result }
     ensures onward { OnwardBuilt s.now p at result }
 {
     let first = atom_at(s, p, depth, out, at)?;
-    if first.condition {
+    if first.kind {
         conditions_at(s, first, depth, out, at)
     } else {
         Ok(first)

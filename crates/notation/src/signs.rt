@@ -1,5 +1,5 @@
 // Signs that join two operands: each reader gives the sign's code in the sheet and the place behind it, or none; or the place where one
-// that is begun cannot go on.
+// that is begun cannot go on. The codes are the sheet's own bytes, written as they are: an enum would only be turned back into them.
 #![tactic(auto, using(scan::proofs::WordLaws::places, crate::proofs::SignLaws::codes), unfolding(crate::proofs::Opened::signs))]
 
 ghost use Rattle.std.specs.Prelude.{◌≤◌, length, Ok};

@@ -1,4 +1,5 @@
-// One printed form for each sheet (02, ticket 4): the text of a sheet, in a lent buffer.
+// One printed form for each sheet (02, ticket 4): the text of a sheet, in a lent buffer. `as` where std has no `From` for it, and
+// `try_from` would give an `Err` that cannot come.
 #![tactic(auto)]
 
 mod actions; // what a statement does
@@ -22,8 +23,8 @@ use refusal::{Fault, Refusal};
 use writing::{put_front, put_zeros};
 
 // The text of a sheet that reads, with zeros behind it; all zeros where it does not fit.
-fn print_read(sheet: &[u8], index: Index, text: &mut [u8]) -> Printing
-    requires { Indexes sheet.now index }
+fn print_read(sheet: &[u8], index: &Index, text: &mut [u8]) -> Printing
+    requires { Indexes sheet.now index.now }
     ensures { printing_of result text.new ≡ Rule.written_into (length text.old) (Rule.print (program_in sheet.now)) }
 {
     let written = print_program(sheet, index, text);
@@ -51,7 +52,7 @@ pub fn print_sheet(sheet: &[u8], text: &mut [u8]) -> Printing
     ensures unchanged { Unchanged sheet.now sheet.now }
 {
     match read_sheet(sheet) {
-        Ok(index) => print_read(sheet, index, text),
+        Ok(index) => print_read(sheet, &index, text),
         Err(fault) => refuse(text, fault),
     }
 }

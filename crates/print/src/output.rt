@@ -5,9 +5,9 @@ ghost use Rattle.refusal.specs.Shape.{rule_of};
 ghost use Rattle.print.specs.Shape.{printing_of, refused_by};
 
 use refusal::Fault;
-use writing::put_zeros;
 
-// The numbers that the C call writes. Refusal 0: so many bytes were written. Another: the place in the sheet, and zeros.
+// The numbers that the C call writes: README names it as the answer of `print_sheet`. Refusal 0: so many bytes were written. Another: the
+// place in the sheet, and zeros.
 #[derive(Clone, Copy)]
 pub struct Printing {
     pub refusal: u32,
@@ -18,7 +18,7 @@ pub struct Printing {
 pub(crate) fn refuse(text: &mut [u8], fault: Fault) -> Printing
     ensures { printing_of result text.new ≡ refused_by (length text.old) (number (rule_of fault.refusal)) fault.place }
 {
-    put_zeros(text, 0);
+    text.fill(0);
     Printing {
         refusal: u32::from(fault.refusal),
         place: fault.place,

@@ -1,4 +1,5 @@
-// The lines of statements and of ranges, each with its newline.
+// The lines of statements and of ranges, each with its newline. `as` where std has no `From` for it, and `try_from` would give an `Err`
+// that cannot come.
 ghost use Rattle.std.specs.Prelude.{◌≡◌, ◌+◌, ◌*◌, ◌≤◌, length};
 ghost use Rattle.rules.specs.Program as R;
 ghost use Rattle.rules.specs.Format.{Names};
@@ -15,7 +16,7 @@ use field::{RANGE_SIZE, is_halt, statement_at};
 use infix::put_value;
 use writing::{put, put_bytes, put_decimal};
 
-// A statement's times; halt has none.
+// A statement's times; halt has none. The rule's `print_times` takes the same three.
 fn print_times(halts: bool, least: usize, greatest: usize, out: &mut [u8], from: usize) -> usize
     ensures { Writes (print_times halts least greatest) out.old from out.new result }
 {
@@ -55,7 +56,7 @@ fn print_range(s: &[u8], p: usize, word: &[u8], out: &mut [u8], from: usize) -> 
     put(out, fourth, b'\n')
 }
 
-// A line for each of n ranges, one behind the other.
+// A line for each of n ranges, one behind the other. Ranges are bytes of the sheet: no slice of ranges is there to go over.
 pub(crate) fn print_ranges(
     s: &[u8],
     place: usize,

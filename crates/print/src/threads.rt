@@ -9,9 +9,10 @@ use crate::rows::{print_ranges, print_statement};
 use reader::{Index, MOST_STATEMENTS, OPENING_SIZE};
 use writing::put_bytes;
 
-// The statements of thread t.
-fn print_statements(s: &[u8], index: Index, t: usize, out: &mut [u8], from: usize) -> usize
-    requires { Indexes s.now index × (t < index.threads) }
+// The statements of thread t. It goes over k, since the index has the place of statement k of thread t by t and k. A loop over a slice of
+// the places leaves eleven goals to answer by hand, this one six.
+fn print_statements(s: &[u8], index: &Index, t: usize, out: &mut [u8], from: usize) -> usize
+    requires { Indexes s.now index.now × (t < index.now.threads) }
     ensures { Writes (in_row statement_text (thread_in (program_in s.now) t).statements) out.old from out.new result }
 {
     let mut at = from;
@@ -23,8 +24,8 @@ fn print_statements(s: &[u8], index: Index, t: usize, out: &mut [u8], from: usiz
 }
 
 // Thread t.
-fn print_thread(s: &[u8], index: Index, t: usize, out: &mut [u8], from: usize) -> usize
-    requires { Indexes s.now index × (t < index.threads) }
+fn print_thread(s: &[u8], index: &Index, t: usize, out: &mut [u8], from: usize) -> usize
+    requires { Indexes s.now index.now × (t < index.now.threads) }
     ensures { Writes (thread_text (thread_in (program_in s.now) t)) out.old from out.new result }
 {
     let entry = index.entries[t];
@@ -34,8 +35,9 @@ fn print_thread(s: &[u8], index: Index, t: usize, out: &mut [u8], from: usize) -
     print_statements(s, index, t, out, second)
 }
 
-pub(crate) fn print_threads(s: &[u8], index: Index, out: &mut [u8], from: usize) -> usize
-    requires { Indexes s.now index }
+// It goes over t, since what is said of a thread's text and of its places is said by t.
+pub(crate) fn print_threads(s: &[u8], index: &Index, out: &mut [u8], from: usize) -> usize
+    requires { Indexes s.now index.now }
     ensures { Writes (in_row thread_text (program_in s.now).threads) out.old from out.new result }
 {
     let mut at = from;

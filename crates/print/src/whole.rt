@@ -1,4 +1,5 @@
-// The header of a sheet that reads, and all lines behind it, by its index.
+// The header of a sheet that reads, and all lines behind it, by its index. `as` where std has no `From` for it, and `try_from` would give
+// an `Err` that cannot come.
 ghost use Rattle.reader.specs.Facts.{program_in};
 ghost use Rattle.writing.specs.Out.{Writes};
 ghost use Rattle.printed.specs.Print.{print};
@@ -12,8 +13,8 @@ use reader::Index;
 use writing::put;
 
 // Limit, budget, label and locks.
-fn print_head(index: Index, out: &mut [u8]) -> usize
-    ensures { Writes (head_text (header_of index) index.locks) out.old 0 out.new result }
+fn print_head(index: &Index, out: &mut [u8]) -> usize
+    ensures { Writes (head_text (header_of index.now) index.now.locks) out.old 0 out.new result }
 {
     let first = put_named(out, 0, b"limit ", index.limit.0 as usize);
     let second = put_named(out, first, b"\nbudget ", index.budget as usize);
@@ -24,8 +25,8 @@ fn print_head(index: Index, out: &mut [u8]) -> usize
 }
 
 // The text; its end is one past the buffer's where it does not fit.
-pub(crate) fn print_program(sheet: &[u8], index: Index, text: &mut [u8]) -> usize
-    requires { Indexes sheet.now index }
+pub(crate) fn print_program(sheet: &[u8], index: &Index, text: &mut [u8]) -> usize
+    requires { Indexes sheet.now index.now }
     ensures { Writes (print (program_in sheet.now)) text.old 0 text.new result }
 {
     let variables = print_head(index, text);

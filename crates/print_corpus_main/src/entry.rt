@@ -1,47 +1,62 @@
-// One entry: what stands in its front, the calls, and what came of them.
-ghost use Rattle.std.specs.Prelude.{◌+◌, ◌≤◌};
-
+// One entry: what stands in its front, the calls, and what came of them. Numbers are made wider by `as`: `usize` has no `From<u32>`, `u64`
+// none of a `usize`, and a `try_from` would give an error that cannot come.
 use convert::convert_text;
-use corpus::four;
+use corpus::{FILLED, all_are, bytes_at};
 use print::{Printing, print_sheet};
 
 // Bytes of a front.
 pub(crate) const FRONT: usize = 22;
 
-// What a buffer holds before each call.
-const FILLED: u8 = 7;
-
-// The refusal of a text that does not fit.
+// The refusal of a text that does not fit, as C gets it.
 const OUTPUT_FULL: u32 = 19;
 
-// What is planted in an entry: one of the three numbers is wrong, or one byte of what the buffer is to hold.
+// What is planted in an entry: one of the three numbers is wrong, or one byte of what the buffer is to hold. The error is the number
+// itself, where it stands for nothing.
 #[derive(Clone, Copy, PartialEq, Eq)]
 pub(crate) enum Planted {
     Nothing,
     Number,
     Text,
-    Unknown,
 }
 
-impl From<u8> for Planted {
-    fn from(code: u8) -> Planted {
+impl TryFrom<u8> for Planted {
+    type Error = u8;
+
+    fn try_from(code: u8) -> Result<Planted, u8> {
         match code {
-            0 => Planted::Nothing,
-            1 => Planted::Number,
-            2 => Planted::Text,
-            _ => Planted::Unknown,
+            0 => Ok(Planted::Nothing),
+            1 => Ok(Planted::Number),
+            2 => Ok(Planted::Text),
+            _ => Err(code),
         }
     }
 }
 
-// What is planted, the lengths of the sheet and of what is stated of the buffer, the bytes that are lent, and the three numbers that are due.
+// What is planted, if it is known, the lengths of the sheet and of what is stated of the buffer, the bytes that are lent, and the three
+// numbers that are due, as the corpus states them: the refusal is compared with the number that C gets.
 #[derive(Clone, Copy)]
 pub(crate) struct Front {
-    pub(crate) planted: Planted,
+    pub(crate) planted: Option<Planted>,
     pub(crate) sheet: usize,
     pub(crate) stated: usize,
     pub(crate) room: usize,
     due: [u64; 3],
+}
+
+impl From<[u8; FRONT]> for Front {
+    fn from(b: [u8; FRONT]) -> Front {
+        Front {
+            planted: Planted::try_from(b[0]).ok(),
+            sheet: u32::from_be_bytes(bytes_at(&b, 1)) as usize,
+            stated: u32::from_be_bytes(bytes_at(&b, 5)) as usize,
+            room: u32::from_be_bytes(bytes_at(&b, 9)) as usize,
+            due: [
+                u64::from(b[13]),
+                u64::from(u32::from_be_bytes(bytes_at(&b, 14))),
+                u64::from(u32::from_be_bytes(bytes_at(&b, 18))),
+            ],
+        }
+    }
 }
 
 // Of a sheet that is printed: whether its text is converted back to that sheet, and whether it is refused where one byte less is lent.
@@ -59,32 +74,11 @@ pub(crate) struct Verdict {
     pub(crate) tried: Option<Tried>,
 }
 
-// The number in the four bytes from this place on.
-fn four_at(b: &[u8; FRONT], at: usize) -> u64
-    requires { at + 4 ≤ 22 }
-{
-    four(b[at], b[at + 1], b[at + 2], b[at + 3])
-}
-
-pub(crate) fn front_of(b: &[u8; FRONT]) -> Front {
-    Front {
-        planted: Planted::from(b[0]),
-        sheet: four_at(b, 1) as usize,
-        stated: four_at(b, 5) as usize,
-        room: four_at(b, 9) as usize,
-        due: [u64::from(b[13]), four_at(b, 14), four_at(b, 18)],
-    }
-}
-
-fn all_zeros(bytes: &[u8]) -> bool {
-    bytes.iter().all(|b| *b == 0)
-}
-
 // Whether the buffer holds these bytes and zeros behind them.
 fn holds(buffer: &[u8], bytes: &[u8]) -> bool {
     buffer
         .strip_prefix(bytes)
-        .is_some_and(|rest| all_zeros(rest))
+        .is_some_and(|rest| all_are(rest, 0))
 }
 
 fn same_answer(x: Printing, due: [u64; 3]) -> bool {
@@ -102,7 +96,7 @@ fn comes_back(text: &[u8], sheet: &[u8], buffer: &mut [u8]) -> bool {
 fn is_full(sheet: &[u8], text: &mut [u8]) -> bool {
     text.fill(FILLED);
     let x = print_sheet(sheet, text);
-    x.refusal == OUTPUT_FULL && x.place == 0 && x.written == 0 && all_zeros(text)
+    x.refusal == OUTPUT_FULL && x.place == 0 && x.written == 0 && all_are(text, 0)
 }
 
 // Behind a call that wrote so many bytes: the text converted back, then the same call with one byte less.

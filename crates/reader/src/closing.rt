@@ -5,7 +5,7 @@ ghost use Rattle.reader.specs.Index.{target_at, targets_at, last_at};
 use field::{byte_at, need};
 use refusal::{Fault, Refusal};
 
-// 01's codes of halt and of if.
+// 01's codes of halt and of if. They are numbers, as `target_at` and `last_at` speak of the byte at a place, whichever it is.
 const HALT: usize = 0;
 
 const IF: usize = 3;

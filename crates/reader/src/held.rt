@@ -1,6 +1,6 @@
 // The reader that holds the sheet's bytes and its place in them, and the walk of a sheet by it.
 // Functions over a reader are thin: each calls one that is given the bytes and the place, and hands the reader back moved on.
-// Tests and loops stand in the functions that they call.
+// Tests and loops stand in the functions that they call. The three methods on parts stay three: docs/DECISIONS.md, 32, names each.
 #![tactic(auto, unfolding(crate::proofs::Opened::walk))]
 
 ghost use Rattle.std.specs.Prelude.{◌≡◌, ◌≤◌, length};
@@ -41,7 +41,8 @@ impl<'a> Reader<'a> {
         Ok((variables, Reader { at, ..self }))
     }
 
-    // The threads are the rest of the sheet: with them the index is whole.
+    // The threads are the rest of the sheet: with them the index is whole. The bound on the sheet is asked here and is no ghost field:
+    // the functions on slice and place that DECISIONS 32 names would ask it still, and the other three methods need none.
     fn threads(self, header: Header, locks: usize, variables: usize) -> Result<Index, Fault>
         requires { length self.sheet.now ≤ greatest_place }
         ensures { result ≡ index_with header locks variables (read_threads variables locks self.entry.sheet.now self.entry.at) }

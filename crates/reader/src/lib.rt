@@ -23,7 +23,8 @@ const LONGEST_SHEET: u16 = 16384;
 pub const MOST_PLACES: usize = MOST_THREADS * MOST_STATEMENTS;
 
 // What a sheet says, by where it stands: the header's numbers, the counts, an entry for each thread, and the place of statement k of
-// thread t at places[t * MOST_STATEMENTS + k].
+// thread t at places[t * MOST_STATEMENTS + k]. The tables are arrays with a count: memory is fixed, with no heap and no crate but std.
+// The header's numbers stand one by one, as `IndexFacts` and the crates above name them.
 #[derive(Clone, Copy)]
 pub struct Index {
     pub limit: Time,

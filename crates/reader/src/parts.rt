@@ -1,5 +1,5 @@
 // The parts of a sheet before its threads: what each says, and the place behind it.
-// Every function is given the whole sheet s and the place of its part in it.
+// Every function is given the whole sheet s and the place of its part in it. Why there are three: docs/DECISIONS.md, 32, names each.
 #![tactic(auto, unfolding(crate::proofs::Opened::parts))]
 
 ghost use Rattle.std.specs.Prelude.{◌≡◌};

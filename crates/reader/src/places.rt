@@ -1,4 +1,5 @@
 // The statements of a thread, and the table of their places.
+// The cast: std has no `From` to the narrower type, and `try_from` would give an Err that cannot come.
 ghost use Rattle.std.specs.Prelude.{◌≤◌, length};
 ghost use Rattle.rules.specs.Constants.{most_statements};
 ghost use Rattle.rules.specs.Format.{read_statements};
@@ -22,6 +23,7 @@ pub(crate) fn read_statements(
 {
     let mut count = 0;
     let mut end = at;
+    // A `while`: behind a `for` over the most that may stand there, the place would be tested once more to tell too many.
     while statement_here(s, count, end)? {
         need(count < MOST_STATEMENTS, Refusal::TooMany, end)?;
         let place = end;

@@ -1,4 +1,5 @@
 // Threads: the field of tag 4, the registers, the statements and the closing of each, and the tables of an index.
+// The casts: std has no `From` to these narrower types, and `try_from` would give an Err that cannot come.
 ghost use Rattle.std.specs.Prelude.{◌≡◌, ◌+◌, ◌*◌, ◌≤◌, length};
 ghost use Rattle.rules.specs.Constants.{most_threads, most_statements};
 ghost use Rattle.rules.specs.Format.{byte, read_thread, read_threads};
@@ -29,7 +30,7 @@ const NO_ENTRY: ThreadEntry = ThreadEntry {
     statements: 0,
 };
 
-// How many threads were read, and their entries.
+// How many threads were read, and their entries: an array with a count, as in an index.
 #[derive(Clone, Copy)]
 pub(crate) struct Threads {
     pub count: usize,
@@ -86,6 +87,7 @@ pub(crate) fn read_threads(
     let mut entries = [NO_ENTRY; MOST_THREADS];
     let mut count = 0;
     let mut end = at;
+    // A `while`: behind a `for` over the entries and the rows, the sheet's end would be tested once more to tell too many.
     while end != s.len() {
         need(count < MOST_THREADS, Refusal::TooMany, end)?;
         let row = &mut places[count * MOST_STATEMENTS..];

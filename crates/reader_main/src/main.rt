@@ -1,5 +1,7 @@
 // Reads sheets from standard input, each behind its length in two bytes, and writes a line for each: its refusal and place,
 // and where these are 0 the numbers of its index, an entry for each thread, and each statement as it decodes at its place.
+//
+// A number becomes a `usize` by `as`: std has no `From` for it, and a `try_from` would give an error that cannot come.
 #![tactic(auto)]
 
 use field::{Action, statement_at};

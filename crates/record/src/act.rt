@@ -1,4 +1,7 @@
-// What the statement of an event does to the replay state.
+// What the statement of an event does to the replay state: by value, over known values. `event::act` is another, over spans and into a
+// slot of lent numbers; whom a lock goes to is `event::locking`'s for both.
+// `target as u8`: std has no `From` for it, and `try_from` would give an `Err` that cannot come.
+// `Stands` is a `requires` and no ghost field: it is of the state and the event together, and the state is written in between.
 ghost use Rattle.std.specs.Prelude.{◌≡◌, suc, ◌<◌, ◌≤◌, false, length, slice_set};
 ghost use Rattle.rules.specs.Constants.{deepest, most_threads, most_statements, most_registers, most_variables, most_locks};
 ghost use Rattle.rules.specs.Program as P;
@@ -43,7 +46,8 @@ fn come_to(mut x: Replay, v: Event, at: u8) -> Replay
 // The thread comes to its next statement.
 fn move_on(x: Replay, v: Event) -> Replay
     requires { Stands x v }
-    ensures { (z : Sizes) → replay_of z result ≡ stood z x v.thread (suc (thread_at x v.thread).at) v.tick.0 (thread_at x v.thread).regs x.vars x.owners }
+    ensures { (z : Sizes)
+        → replay_of z result ≡ stood z x v.thread (suc (thread_at x v.thread).at) v.tick.0 (thread_at x v.thread).regs x.vars x.owners }
 {
     come_to(x, v, next(x.threads[v.thread].at))
 }
@@ -57,7 +61,8 @@ fn skip(x: Replay, v: Event) -> Replay
 
 fn write_register(mut x: Replay, v: Event, r: usize, k: Val) -> Replay
     requires { Stands x v × (r < most_registers) }
-    ensures { (z : Sizes) → replay_of z result ≡ stood z x v.thread (suc (thread_at x v.thread).at) v.tick.0 (slice_set (thread_at x v.thread).regs r k) x.vars x.owners }
+    ensures { (z : Sizes) → replay_of z result
+        ≡ stood z x v.thread (suc (thread_at x v.thread).at) v.tick.0 (slice_set (thread_at x v.thread).regs r k) x.vars x.owners }
 {
     x.threads[v.thread].regs[r] = k;
     move_on(x, v)
@@ -72,7 +77,8 @@ fn assign(
     end: usize,
 ) -> Result<Replay, Refusal>
     requires { Stands x v × ((r < most_registers) × ((v.registers ≤ most_registers) × (end ≤ length sheet.now))) }
-    ensures { (z : Sizes) (a : P.Arith) → Sized z v → read_arith deepest sheet.now end v.registers at ≡ got a end → Acts z x v (P.assign r a) result }
+    ensures { (z : Sizes) (a : P.Arith) → Sized z v → read_arith deepest sheet.now end v.registers at ≡ got a end
+        → Acts z x v (P.assign r a) result }
 {
     let k = value_of(sheet, at, end, v.registers, x.threads[v.thread].regs)?;
     Ok(write_register(x, v, r, k))
@@ -87,7 +93,8 @@ fn branch(
     end: usize,
 ) -> Result<Replay, Refusal>
     requires { Stands x v × ((target < most_statements) × ((v.registers ≤ most_registers) × (end ≤ length sheet.now))) }
-    ensures { (z : Sizes) (a : P.Condition) → Sized z v → read_condition deepest sheet.now end v.registers at ≡ got a end → Acts z x v (P.branch target a) result }
+    ensures { (z : Sizes) (a : P.Condition) → Sized z v → read_condition deepest sheet.now end v.registers at ≡ got a end
+        → Acts z x v (P.branch target a) result }
 {
     let th = x.threads[v.thread];
     let holds = truth_of(sheet, at, end, v.registers, th.regs)?;
@@ -137,7 +144,7 @@ pub(crate) fn act(sheet: &[u8], x: Replay, v: Event, f: Fetched) -> Result<Repla
     ensures { (s : Statement) → Fetches sheet.now (names_of (program_in sheet.now) v.thread) (thread_at x v.thread).at s f
         → is_halt s.action ≡ false → Acts (sizes_of (program_in sheet.now)) x v s.action result }
 {
-    match f.action {
+    match f.statement.action {
         Action::Halt => Ok(x),
         Action::Skip => Ok(skip(x, v)),
         Action::Assign { register, at, end } => assign(sheet, x, v, register, at, end),

@@ -28,11 +28,12 @@ const CLOCK_AT: usize = 4;
 #[tactic(auto, unfolding(crate::proofs::Opened::follow_event))]
 fn follow_event(sheet: &Sheet, x: &mut Replay, r: &[u8], at: usize) -> Result<usize, Fault>
     requires { Asks sheet.now x.old }
-    ensures { placed (replay_of (sizes_in sheet.now) x.new) result ≡ follow_event (program_of sheet.now) r.now at (replay_of (sizes_in sheet.now) x.old) }
+    ensures { placed (replay_of (sizes_in sheet.now) x.new) result
+        ≡ follow_event (program_of sheet.now) r.now at (replay_of (sizes_in sheet.now) x.old) }
 {
     let behind = fixed_field_end(r, at, EVENT, EVENT_SIZE)?;
     let t = usize::from(r[at + HEAD]);
-    let clock = num16_at(r, at + CLOCK_AT) as u16;
+    let clock = num16_at(r, at + CLOCK_AT);
     take_event(x, sheet, t, clock).map_err(|refusal| Fault { refusal, place: at })?;
     Ok(behind)
 }
@@ -45,10 +46,12 @@ pub(crate) fn follow_events(
     from: usize,
 ) -> Result<(Replay, usize), Fault>
     requires { IsReady sheet.now × ((length r.now ≤ longest_record) × (start.tick.0 ≤ from * 65535)) }
-    ensures { reached_of (sizes_in sheet.now) result ≡ follow_from (program_of sheet.now) r.now from (replay_of (sizes_in sheet.now) start) }
+    ensures { reached_of (sizes_in sheet.now) result
+        ≡ follow_from (program_of sheet.now) r.now from (replay_of (sizes_in sheet.now) start) }
 {
     let mut x = start;
     let mut at = from;
+    // a `while`: where the next event stands is read from this one
     while at < r.len() {
         at = follow_event(sheet, &mut x, r, at)?;
     }

@@ -44,8 +44,10 @@ pub(crate) fn truth_of(
     regs: [Val; 8],
 ) -> Result<bool, Refusal>
     requires { (end ≤ length s.now) × (n ≤ most_registers) }
-    ensures { (a : P.Condition) → read_condition deepest s.now end n at ≡ got a end → truth_in result ≡ truth_of a (values_of n regs) }
+    ensures { (a : P.Condition) → read_condition deepest s.now end n at ≡ got a end
+        → truth_in result ≡ truth_of a (values_of n regs) }
 {
-    let branch = branch_on(s, at, end, n, single_spans(regs))?;
+    let branch = branch_on(s, at, end, n, single_spans(regs));
+    branch.check?;
     Ok(branch.yes.is_some())
 }

@@ -1,4 +1,5 @@
 // Follows what the machine recorded: a sheet and a record in, and whether the record is a run of the sheet that leaves a state.
+// `as u64` of a usize: std has no `From` for it, and `try_from` would give an `Err` that cannot come.
 #![tactic(auto)]
 
 ghost use Rattle.std.specs.Prelude.{◌≡◌};
@@ -22,6 +23,13 @@ mod whole; // the follower
 
 pub use whole::{File, Followed, follow};
 
+// 0 for no, 1 for yes.
+pub fn number_of_truth(fact: bool) -> u64
+    ensures { result ≡ F.bit fact }
+{
+    u64::from(fact)
+}
+
 // The follower for callers in C and in Rust: the answer's five numbers (refusal, file, place, finished, tick) go to the front of a lent
 // array, and the refusal is returned. An array of fewer than five numbers is left as it is.
 #[unsafe(no_mangle)]
@@ -37,7 +45,7 @@ pub extern "C" fn zumbeiry_follow(sheet: &[u8], recorded: &[u8], answer: &mut [u
             u64::from(a.refusal),
             u64::from(a.file),
             a.place as u64,
-            u64::from(a.finished),
+            number_of_truth(a.finished),
             u64::from(a.tick),
         ],
     );

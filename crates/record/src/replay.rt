@@ -1,6 +1,6 @@
 // The replay state, by value: where each thread stands, its clock and its registers, the variables, who owns each lock, and the
 // tick of the last event. There is always room for 4 threads, 8 registers each, 8 variables and 8 locks; the sheet says how many
-// of them count.
+// of them count: fixed memory, no heap.
 use field::Time;
 use interval::Val;
 
@@ -12,7 +12,8 @@ pub(crate) struct RunThread {
     pub regs: [Val; 8],
 }
 
-// The owner of a lock is 0 for none, t + 1 for thread t.
+// The owner of a lock is 0 for none, t + 1 for thread t: a number, as `event::locking`, which decides for both, and the search's slots
+// have it.
 #[derive(Clone, Copy)]
 pub(crate) struct Replay {
     pub threads: [RunThread; 4],

@@ -11,7 +11,7 @@ use crate::events::HEAD;
 use crate::replay::{Replay, RunThread};
 use crate::sheet::Sheet;
 use expression::int32_at;
-use field::{Time, fixed_field_end};
+use field::{Time, fixed_field_end, need};
 use interval::{Span, Val, holds};
 use refusal::{Fault, Refusal};
 use state::State;
@@ -35,12 +35,7 @@ fn start_value(r: &[u8], at: usize, range: Span) -> Result<(Val, usize), Fault>
 {
     let behind = fixed_field_end(r, at, VALUE, VALUE_SIZE)?;
     let v = int32_at(r, at + HEAD);
-    if !holds(range, v) {
-        return Err(Fault {
-            refusal: Refusal::OffRange,
-            place: at,
-        });
-    }
+    need(holds(range, v), Refusal::OffRange, at)?;
     Ok((v, behind))
 }
 
@@ -51,6 +46,7 @@ fn start_values(r: &[u8], from: usize, ranges: &[Span]) -> Result<([Val; 8], usi
 {
     let mut values = [Val(0); 8];
     let mut at = from;
+    // by k: under `values.iter_mut().zip(ranges)` an invariant cannot name what is written, and `returns` stayed open
     for (k, range) in ranges.iter().enumerate() {
         (values[k], at) = start_value(r, at, *range)?;
     }
@@ -69,6 +65,7 @@ fn start_threads(
 {
     let mut threads = [AT_START; 4];
     let mut at = from;
+    // by t: of a zip of the three arrays, cut and numbered, that item t is entry t and thread t stayed open (`loop-t-preserved`)
     for t in 0..sheet.plan.threads {
         let n = usize::from(sheet.plan.entries[t].registers);
         let ranges = &first.threads[t].regs[..n];

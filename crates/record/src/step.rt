@@ -1,4 +1,5 @@
 // One event of a record, by value: its full tick is recovered, it is held to the rule for runs, and its statement takes effect.
+// `as u16` of a remainder: std has no `From` for it, and `try_from` would give an `Err` that cannot come.
 ghost use Rattle.std.specs.Prelude.{◌≡◌, ◌+◌, ◌^◌, ◌<◌, length};
 ghost use Rattle.rules.specs.Run.{step};
 ghost use Rattle.field.specs.Decoded.{halts};
@@ -12,7 +13,7 @@ use crate::act::{Event, act};
 use crate::replay::Replay;
 use crate::sheet::Sheet;
 use crate::threads::{all_allow, fetch};
-use event::fetch::Fetched;
+use field::decoding::Statement;
 use field::{Time, is_halt};
 use refusal::Refusal;
 
@@ -37,7 +38,7 @@ fn tick_after(tick: Time, clock: u16) -> Time
 }
 
 // A thread at this clock, with this statement, is live, and the statement's least time has gone by at tick e.
-fn is_due(clock: Time, f: Fetched, e: Time) -> bool
+fn is_due(clock: Time, f: Statement, e: Time) -> bool
     ensures { result ≡ is_due clock.0 (halts f.action) f.least.0 e.0 }
 {
     !is_halt(f.action) && clock.0 <= e.0 && f.least.0 <= e.0 - clock.0
@@ -46,10 +47,11 @@ fn is_due(clock: Time, f: Fetched, e: Time) -> bool
 // Thread t ends its statement at tick e, where that is an event.
 fn event(sheet: &Sheet, x: Replay, t: usize, e: Time) -> Result<Replay, Refusal>
     requires { IsReady sheet.now × (t < length (program_of sheet.now).threads) }
-    ensures { replayed_of (sizes_in sheet.now) result ≡ replayed e.0 (step (program_of sheet.now) (state_of (sizes_in sheet.now) x) t e.0) }
+    ensures { replayed_of (sizes_in sheet.now) result
+        ≡ replayed e.0 (step (program_of sheet.now) (state_of (sizes_in sheet.now) x) t e.0) }
 {
     let f = fetch(sheet, &x, t);
-    if !is_due(x.threads[t].clock, f, e) || !all_allow(sheet, &x, e) {
+    if !is_due(x.threads[t].clock, f.statement, e) || !all_allow(sheet, &x, e) {
         return Err(Refusal::NotRun);
     }
     let v = Event {

@@ -12,9 +12,10 @@ ghost use Rattle.record.specs.Sheet.{program_of, sizes_in, IsReady};
 use crate::replay::Replay;
 use crate::sheet::Sheet;
 use event::fetch::Fetched;
+use field::decoding::Statement;
 use field::{Time, is_halt};
 
-// The statement at which thread t stands.
+// The statement at which thread t stands: as the search's `taken` fetches it, there from a slot's numbers, here from a replay state.
 pub(crate) fn fetch(sheet: &Sheet, x: &Replay, t: usize) -> Fetched
     requires { IsReady sheet.now × (t < length (program_of sheet.now).threads) }
     ensures { Fetches sheet.now.bytes.now (names_of (program_of sheet.now) t) (thread_at x.now t).at
@@ -24,7 +25,7 @@ pub(crate) fn fetch(sheet: &Sheet, x: &Replay, t: usize) -> Fetched
 }
 
 // A thread at this clock, with this statement, allows an event end at tick e.
-fn allows(clock: Time, f: Fetched, e: Time) -> bool
+fn allows(clock: Time, f: Statement, e: Time) -> bool
     ensures { result ≡ allows clock.0 (halts f.action) f.greatest.0 e.0 }
 {
     clock.0 <= e.0 && (is_halt(f.action) || e.0 - clock.0 <= f.greatest.0)
@@ -34,13 +35,14 @@ fn thread_allows(sheet: &Sheet, x: &Replay, u: usize, e: Time) -> bool
     requires { IsReady sheet.now × (u < length (program_of sheet.now).threads) }
     ensures { result ≡ allows_at (program_of sheet.now) (state_of (sizes_in sheet.now) x.now) e.0 u }
 {
-    allows(x.threads[u].clock, fetch(sheet, x, u), e)
+    allows(x.threads[u].clock, fetch(sheet, x, u).statement, e)
 }
 
 // Every thread allows an event end at tick e.
 pub(crate) fn all_allow(sheet: &Sheet, x: &Replay, e: Time) -> bool
     requires { IsReady sheet.now }
-    ensures { result ≡ all_below (length (program_of sheet.now).threads) (allows_at (program_of sheet.now) (state_of (sizes_in sheet.now) x.now) e.0) }
+    ensures { result
+        ≡ all_below (length (program_of sheet.now).threads) (allows_at (program_of sheet.now) (state_of (sizes_in sheet.now) x.now) e.0) }
 {
     (0..sheet.plan.threads).all(|u| thread_allows(sheet, x, u, e))
 }
@@ -49,7 +51,7 @@ fn thread_halts(sheet: &Sheet, x: &Replay, u: usize) -> bool
     requires { IsReady sheet.now × (u < length (program_of sheet.now).threads) }
     ensures { result ≡ not (live (program_of sheet.now) (state_of (sizes_in sheet.now) x.now) u) }
 {
-    is_halt(fetch(sheet, x, u).action)
+    is_halt(fetch(sheet, x, u).statement.action)
 }
 
 // Every thread stands at halt.

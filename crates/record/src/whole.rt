@@ -18,6 +18,7 @@ use crate::sheet::Sheet;
 use crate::starting::start_replay;
 use crate::threads::all_halt;
 use event::plan::Plan;
+use field::need;
 use reader::{Index, read_sheet};
 use refusal::{Fault, Refusal};
 use state::{State, start};
@@ -43,8 +44,8 @@ impl From<File> for u64 {
     }
 }
 
-// Refusal 0: the record is a run of the sheet, finished or not, whose last event is at the tick; the file is then the sheet and the
-// place 0.
+// The numbers that the C call gives. Refusal 0: the record is a run of the sheet, finished or not, whose last event is at the tick; the
+// file is then the sheet and the place 0. `finished` and `tick` count only there, and are false and 0 elsewhere.
 #[derive(Clone, Copy)]
 pub struct Followed {
     pub refusal: u32,
@@ -73,17 +74,13 @@ fn follow_record(sheet: &Sheet, first: &State, r: &[u8]) -> Result<(Replay, usiz
     requires { IsReady sheet.now × StartsFrom (program_of sheet.now) first.now }
     ensures { reached_of (sizes_in sheet.now) result ≡ follow_record (program_of sheet.now) r.now }
 {
-    if LONGEST_RECORD < r.len() {
-        return Err(Fault {
-            refusal: Refusal::TooLong,
-            place: 0,
-        });
-    }
+    need(r.len() <= LONGEST_RECORD, Refusal::TooLong, 0)?;
     let (x, at) = start_replay(sheet, first, r)?;
     follow_events(sheet, x, r, at)
 }
 
 // The answer to a sheet that reads.
+// That the index is the sheet's is a clause and no ghost field of the two: a struct of both would be taken apart at once.
 fn follow_index(bytes: &[u8], index: Index, r: &[u8]) -> Followed
     requires { index_of (read_sheet bytes.now) ≡ Ok index }
     ensures { followed_of result ≡ follow_with r.now (read_sheet bytes.now) }
@@ -92,11 +89,7 @@ fn follow_index(bytes: &[u8], index: Index, r: &[u8]) -> Followed
     let sheet = Sheet {
         bytes,
         places: &index.places,
-        plan: Plan {
-            threads: index.threads,
-            limit: index.limit,
-            entries: index.entries,
-        },
+        plan: Plan::from(&index),
         variables: index.variables,
     };
     match follow_record(&sheet, &first, r) {

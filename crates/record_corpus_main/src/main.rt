@@ -4,88 +4,98 @@
 //
 // Some entries are planted, so that the comparison itself is tried: one of their five numbers is wrong. It prints how many there are,
 // and how many of these it noticed.
+//
+// Numbers are made wider by `as`: `usize` has no `From<u32>`, `u64` none of a `usize`, and a `try_from` would give an error that cannot
+// come.
 #![tactic(auto)]
 
-use corpus::{counted, four, over_entries, put, read_front};
-use files::read_full;
+use corpus::{Count, bytes_at, front, over_entries, read_front};
 use record::{Followed, follow};
-use std::io::Read;
+use std::io::{Print, Read};
 
 // Bytes of a sheet and of a record at most.
 const SHEET_ROOM: usize = 20000;
 
 const RECORD_ROOM: usize = 70000;
 
-// What is planted in an entry: one of the five numbers is wrong. No corpus has another number there; it would count for nothing.
+// What is planted in an entry: one of the five numbers is wrong. No corpus has another number there; it would count for nothing. The error
+// is that number.
 #[derive(Clone, Copy, PartialEq, Eq)]
 enum Planted {
     Nothing,
     WrongNumber,
-    Unknown,
 }
 
-impl From<u8> for Planted {
-    fn from(n: u8) -> Planted {
-        match n {
-            0 => Planted::Nothing,
-            1 => Planted::WrongNumber,
-            _ => Planted::Unknown,
+impl TryFrom<u8> for Planted {
+    type Error = u8;
+
+    fn try_from(code: u8) -> Result<Planted, u8> {
+        match code {
+            0 => Ok(Planted::Nothing),
+            1 => Ok(Planted::WrongNumber),
+            _ => Err(code),
         }
     }
 }
 
-// An entry but for the bytes of its sheet and its record, of which these are the lengths.
+// An entry but for the bytes of its sheet and its record, of which these are the lengths. Its five numbers are as the corpus states them,
+// and the refusal and the file are compared as C gets them.
 #[derive(Clone, Copy)]
 struct Entry {
-    planted: Planted,
+    planted: Option<Planted>,
     sheet: usize,
     recorded: usize,
-    refusal: u64,
-    file: u64,
-    place: u64,
-    finished: u64,
-    tick: u64,
+    due: [u64; 5],
 }
 
-// How many entries are right, and how many of these differ; how many have a wrong number, and how many of these were noticed.
+impl From<[u8; 20]> for Entry {
+    fn from(b: [u8; 20]) -> Entry {
+        Entry {
+            planted: Planted::try_from(b[0]).ok(),
+            sheet: u32::from_be_bytes(bytes_at(&b, 1)) as usize,
+            recorded: u32::from_be_bytes(bytes_at(&b, 5)) as usize,
+            due: [
+                u64::from(b[9]),
+                u64::from(b[10]),
+                u64::from(u32::from_be_bytes(bytes_at(&b, 11))),
+                u64::from(b[15]),
+                u64::from(u32::from_be_bytes(bytes_at(&b, 16))),
+            ],
+        }
+    }
+}
+
+// The entries that are right, of which none is to differ, and those that have a wrong number.
 #[derive(Clone, Copy, Default)]
 struct Tally {
-    compared: u64,
-    differ: u64,
-    numbers: u64,
-    numbers_noticed: u64,
+    records: Count,
+    numbers: Count,
 }
 
-fn entry_of(b: &[u8; 20]) -> Entry {
-    Entry {
-        planted: Planted::from(b[0]),
-        sheet: four(b[1], b[2], b[3], b[4]) as usize,
-        recorded: four(b[5], b[6], b[7], b[8]) as usize,
-        refusal: u64::from(b[9]),
-        file: u64::from(b[10]),
-        place: four(b[11], b[12], b[13], b[14]),
-        finished: u64::from(b[15]),
-        tick: four(b[16], b[17], b[18], b[19]),
+impl Tally {
+    fn with(self, planted: Option<Planted>, differs: bool) -> Tally {
+        match planted {
+            Some(Planted::Nothing) => Tally {
+                records: self.records.with(differs),
+                ..self
+            },
+            Some(Planted::WrongNumber) => Tally {
+                numbers: self.numbers.with(differs),
+                ..self
+            },
+            None => self,
+        }
     }
 }
 
-fn same(f: Followed, e: Entry) -> bool {
-    u64::from(f.refusal) == e.refusal
-        && u64::from(f.file) == e.file
-        && f.place as u64 == e.place
-        && u64::from(f.finished) == e.finished
-        && u64::from(f.tick) == e.tick
-}
-
-fn added(t: Tally, alike: bool, planted: Planted) -> Tally {
-    let right = planted == Planted::Nothing;
-    let number = planted == Planted::WrongNumber;
-    Tally {
-        compared: counted(t.compared, right),
-        differ: counted(t.differ, right && !alike),
-        numbers: counted(t.numbers, number),
-        numbers_noticed: counted(t.numbers_noticed, number && !alike),
-    }
+fn numbers_of(f: Followed) -> [u64; 5] {
+    [
+        u64::from(f.refusal),
+        u64::from(f.file),
+        f.place as u64,
+        u64::from(f.finished),
+        u64::from(f.tick),
+    ]
 }
 
 // One entry more, its sheet and its record at the fronts of the buffers; none where the corpus does not hold it whole.
@@ -95,29 +105,23 @@ fn compare_next<R: Read>(
     sheet: &mut [u8],
     recorded: &mut [u8],
 ) -> Option<Tally> {
-    let mut front = [0u8; 20];
-    if read_full(from, &mut front) < 20 {
-        return None;
-    }
-    let e = entry_of(&front);
-    if !read_front(from, sheet, e.sheet) || !read_front(from, recorded, e.recorded) {
-        return None;
-    }
+    let e = Entry::from(front(from)?);
+    read_front(from, sheet, e.sheet)?;
+    read_front(from, recorded, e.recorded)?;
     let f = follow(&sheet[..e.sheet], &recorded[..e.recorded]);
-    Some(added(t, same(f, e), e.planted))
+    Some(t.with(e.planted, numbers_of(f) != e.due))
 }
 
 fn main(rt: HostRuntime) {
     let mut sheet = [0u8; SHEET_ROOM];
     let mut recorded = [0u8; RECORD_ROOM];
-    let tally = over_entries(&mut rt.stdin(), Tally::default(), |from, t| {
+    let Some(t) = over_entries(&mut rt.stdin(), Tally::default(), |from, t| {
         compare_next(from, t, &mut sheet, &mut recorded)
-    });
-    let Some(t) = tally else {
+    }) else {
         return;
     };
-    put(rt, t.compared, b" records compared, ");
-    put(rt, t.differ, b" differ; noticed of what is planted: ");
-    put(rt, t.numbers_noticed, b" of ");
-    put(rt, t.numbers, b" wrong numbers\n");
+    let _ = println!(rt;
+        "{} records compared, {} differ; noticed of what is planted: {} wrong numbers",
+        t.records.all, t.records.noticed, t.numbers
+    );
 }

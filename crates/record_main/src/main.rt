@@ -2,6 +2,8 @@
 // the record is a run of the sheet that leaves a state; the file at fault (0 the sheet, 1 the record) and the place in it; whether
 // the run is finished (1) or not (0), and its last tick. What is printed of the bytes that were read is proved to be what the rule
 // gives.
+//
+// A number becomes a `usize` by `as`: std has no `From` for it, and a `try_from` would give an error that cannot come.
 #![tactic(auto)]
 
 ghost use Rattle.std.specs.Prelude.{◌≡◌, ◌+◌, ◌≤◌, length};
@@ -9,7 +11,7 @@ ghost use Rattle.writing.specs.Out.{Writes};
 ghost use Rattle.recorded.specs.Follow.{longest_record};
 ghost use Rattle.record_main.specs.Line.{longest_line, printed};
 
-use files::{MOST_OF_SHEET, opened, read_full, read_sheet, reads_on, tell, word_count};
+use files::{MOST_OF_SHEET, opened, put_out, read_full, read_sheet, reads_on, word_count};
 use record::{Followed, follow};
 use std::fs::File;
 use std::io::Print;
@@ -23,7 +25,7 @@ const LONGEST_LINE: usize = 47;
 
 // ---- the line
 
-// What is printed of a sheet and a record, at the buffer's front: the line of the answer's five numbers.
+// What is printed of a sheet and a record, at the buffer's front: the line of the answer's five numbers, as the call for C gives them.
 fn answer(sheet: &[u8], recorded: &[u8], out: &mut [u8]) -> usize
     requires { longest_line ≤ length out.old }
     ensures writes { Writes (printed sheet.now recorded.now) out.old 0 out.new result }
@@ -46,14 +48,13 @@ fn answer(sheet: &[u8], recorded: &[u8], out: &mut [u8]) -> usize
 fn put_answer(rt: HostRuntime, sheet: &[u8], recorded: &[u8]) {
     let mut out = [0u8; LONGEST_LINE];
     let end = answer(sheet, recorded, &mut out);
-    if let Err(e) = rt.write_all(&out[..end]) {
-        tell(rt, b"standard output", e);
-    }
+    let _ = put_out(rt, &out[..end]);
 }
 
 // ---- the files
 
-// Reads a record as far as there is room, and gives how many bytes it read.
+// Reads a record as far as there is room, and gives how many bytes it read: here, as the edit `fewer_bytes_read` changes this program's own
+// number of them.
 fn read_record(from: &mut File, recorded: &mut [u8; MOST_OF_RECORD]) -> usize
     ensures { (length recorded.new ≡ longest_record + 1) × (result ≤ longest_record + 1) }
 {

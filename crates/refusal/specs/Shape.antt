@@ -54,3 +54,7 @@ rule_of NotRun = R.not_run
 -- a refusal of the rules at a place, as the code tells it
 abbrev pub fault_at : R.Refusal → ℕ → Fault
 fault_at r p = record { refusal = refusal_of r; place = p }
+
+-- a refusal of the code that speaks of no place
+abbrev pub fault_of : Refusal → Fault
+fault_of r = record { refusal = r; place = 0 }

@@ -3,7 +3,7 @@
 
 ghost use Rattle.std.specs.Prelude.{◌≡◌};
 ghost use Rattle.rules.specs.Refusal.{number};
-ghost use Rattle.refusal.specs.Shape.{rule_of};
+ghost use Rattle.refusal.specs.Shape.{rule_of, fault_of};
 
 #[derive(Clone, Copy, PartialEq, Eq)]
 pub enum Refusal {
@@ -63,5 +63,14 @@ impl From<Refusal> for u32 {
             Refusal::Unreadable => 20,
             Refusal::NotRun => 21,
         }
+    }
+}
+
+// A refusal that speaks of no place has place 0.
+impl From<Refusal> for Fault {
+    ghost from_gives = { λ r f. f ≡ fault_of r };
+
+    fn from(refusal: Refusal) -> Fault {
+        Fault { refusal, place: 0 }
     }
 }

@@ -12,12 +12,12 @@ use Rattle.rules.proofs.Format.{times-in-order}
 use Rattle.rules.proofs.IfAt.{is_true}
 use Rattle.refusal.specs.declared.Refusal.{Refusal}
 use Rattle.refusal.specs.declared.Fault.{Fault}
-use Rattle.refusal.specs.Shape.{rule_of}
+use Rattle.refusal.specs.Shape.{rule_of, fault_of}
 use Rattle.reader.specs.Facts.{statement_in}
 use Rattle.retimed.specs.Retime.{retimed, may_have, from_to, change_times, change}
 use Rattle.retimed.proofs.Change.{times-off, times-made, change-refused, change-made, statement-room, least_small, greatest_small}
 use Rattle.retime.specs.declared.find.Found.{Found}
-use Rattle.retime.specs.Shape.{may_by, placeless, changed_as, changed_by, changed_of}
+use Rattle.retime.specs.Shape.{may_by, changed_as, changed_by, changed_of}
 use Rattle.retime.proofs.Finding.{FoundThere}
 
 -- ---- the code's test of times
@@ -64,6 +64,6 @@ pub given-refused : (s : Bytes) (t k l h : ℕ) (f : Fault) → change_times s t
     → changed_of (changed_by (Err f)) s ≡ change s t k l h
 given-refused s t k l h f e = sym (change-refused s t k l h e)
 
-pub given-placeless : (s : Bytes) (t k l h : ℕ) {f : Fault} {r : Refusal} → f ≡ placeless r → change_times s t k l h ≡ bad (rule_of r) 0
+pub given-placeless : (s : Bytes) (t k l h : ℕ) {f : Fault} {r : Refusal} → f ≡ fault_of r → change_times s t k l h ≡ bad (rule_of r) 0
     → changed_of (changed_by (Err f)) s ≡ change s t k l h
-given-placeless s t k l h {r = r} q e = ap (λ (f : Fault). changed_of (changed_by (Err f)) s) q ∙ given-refused s t k l h (placeless r) e
+given-placeless s t k l h {r = r} q e = ap (λ (f : Fault). changed_of (changed_by (Err f)) s) q ∙ given-refused s t k l h (fault_of r) e

@@ -1,4 +1,5 @@
 -- The five numbers of a preview by what the code gives.
+use Rattle.refusal.specs.Shape.{fault_of}
 use Rattle.std.specs.Prelude.{Ok, Err}
 use mathlib.Core.Path.{◌≡◌, sym, ap, ◌∙◌}
 use Prim.Native.Nat.{ℕ, ◌≤◌, ◌<◌}
@@ -16,7 +17,7 @@ use Rattle.label.specs.Shape.{answer_of}
 use Rattle.retimed.specs.Retime.{Done, Changed, change_times, changed, change, checked, preview_answer}
 use Rattle.retimed.proofs.Preview.{preview-unread, preview-full, preview-room}
 use Rattle.retime.specs.declared.change.Change as D
-use Rattle.retime.specs.Shape.{placeless, changed_by, changed_of, answer_by}
+use Rattle.retime.specs.Shape.{changed_by, changed_of, answer_by}
 
 -- ---- the check of the changed copy, by what the change gave
 
@@ -39,7 +40,7 @@ module _ (s : Bytes) (m n t k l h : ℕ) where
 
   module _ {i : Index} (q : index_of (read_sheet s) ≡ Ok i) where
     -- there is no room for its copy
-    pub preview-short : m < length s → {f : Fault} → f ≡ placeless OutputFull → answer_of (answer_by (Err f)) ≡ preview_answer s m n t k l h
+    pub preview-short : m < length s → {f : Fault} → f ≡ fault_of OutputFull → answer_of (answer_by (Err f)) ≡ preview_answer s m n t k l h
     preview-short c e =
         let (g, p, r) = accepted (read_sheet s) q in
         ap (λ (f : Fault). answer_of (answer_by (Err f))) e ∙ sym (preview-full s m n t k l h g p r c)

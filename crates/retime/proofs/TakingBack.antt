@@ -9,14 +9,14 @@ use Rattle.rules.specs.Format.{Bytes, bad}
 use Rattle.rules.proofs.IfAt.{is_true}
 use Rattle.refusal.specs.declared.Refusal.{Refusal}
 use Rattle.refusal.specs.declared.Fault.{Fault}
-use Rattle.refusal.specs.Shape.{rule_of}
+use Rattle.refusal.specs.Shape.{rule_of, fault_of}
 use Rattle.reader.specs.Facts.{statement_in}
 use Rattle.retimed.specs.Retime.{retimed, may_have, Change}
 use Rattle.retimed.specs.TakeBack.{same_times, shows, take_back_times, take_back}
 use Rattle.retimed.specs.TakeBackClaims.{restored}
 use Rattle.retimed.proofs.TakeBack.{back-off, back-since, back-made, taken_refused, taken_made}
 use Rattle.retime.specs.declared.find.Found.{Found}
-use Rattle.retime.specs.Shape.{may_by, placeless, taken_as, taken_by, taken_of}
+use Rattle.retime.specs.Shape.{may_by, taken_as, taken_by, taken_of}
 use Rattle.retime.proofs.Finding.{FoundThere}
 use Rattle.retime.proofs.Changing.{may_of, place-of}
 
@@ -25,8 +25,8 @@ module _ (s : Bytes) (c : Change) where
   pub back-given : (f : Fault) → take_back_times s c ≡ bad (rule_of f.refusal) f.place → taken_of (taken_by (Err f)) s ≡ take_back s c
   back-given f e = sym (taken_refused s c e)
 
-  pub back-placeless : {f : Fault} {r : Refusal} → f ≡ placeless r → take_back_times s c ≡ bad (rule_of r) 0 → taken_of (taken_by (Err f)) s ≡ take_back s c
-  back-placeless {r = r} q e = ap (λ (f : Fault). taken_of (taken_by (Err f)) s) q ∙ back-given (placeless r) e
+  pub back-placeless : {f : Fault} {r : Refusal} → f ≡ fault_of r → take_back_times s c ≡ bad (rule_of r) 0 → taken_of (taken_by (Err f)) s ≡ take_back s c
+  back-placeless {r = r} q e = ap (λ (f : Fault). taken_of (taken_by (Err f)) s) q ∙ back-given (fault_of r) e
 
   module _ {f : Found} (w : FoundThere s c.thread c.statement f) where
     pub found-off : may_by f.code c.old_least c.old_greatest ≡ false → take_back_times s c ≡ bad off_range 0

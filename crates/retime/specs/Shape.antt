@@ -40,10 +40,6 @@ may_by code least greatest = times_fit code least greatest && leb greatest great
 
 -- ---- what the calls give
 
--- a refusal that speaks of no place in the sheet
-abbrev pub placeless : Refusal → Fault
-placeless r = record { refusal = r; place = 0 }
-
 -- the number of a fault's refusal
 abbrev pub number_in : Fault → ℕ
 number_in f = number (rule_of f.refusal)

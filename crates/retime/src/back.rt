@@ -6,9 +6,9 @@ ghost use Rattle.retimed.specs.TakeBack.{same_times, take_back};
 ghost use Rattle.retimed.specs.TakeBackClaims.{AllComeBack};
 ghost use Rattle.retime.specs.Shape.{change_of, taken_by, taken_of};
 
-use crate::change::{Change, placeless};
+use crate::change::Change;
 use crate::find::{Found, find};
-use crate::times::{may_have, write_times};
+use crate::times::{Times, may_have, write_times};
 use reader::{Index, read_sheet};
 use refusal::{Fault, Refusal};
 
@@ -38,27 +38,35 @@ impl From<Result<(), Fault>> for TakenBack {
 }
 
 // Whether the statement has these times.
-fn shows(f: Found, least: u64, greatest: u64) -> bool
-    ensures { result ≡ same_times f.least f.greatest least greatest }
+fn shows(f: Found, times: Times) -> bool
+    ensures { result ≡ same_times f.least f.greatest times.least times.greatest }
 {
-    f.least == least && f.greatest == greatest
+    f.least == times.least && f.greatest == times.greatest
 }
 
-// The taking back in a sheet that reads, by its index.
+// The taking back in a sheet that reads, by its index. No function for what it shares with `change_by`: here is one test more.
 fn take_back_by(sheet: &mut [u8], index: &Index, change: Change) -> Result<(), Fault>
     requires { index_of (read_sheet sheet.old) ≡ Ok index.now }
     ensures { taken_of (taken_by result) sheet.new ≡ take_back sheet.old (change_of change) }
 {
-    let Some(f) = find(sheet, index, change.thread, change.statement) else {
-        return Err(placeless(Refusal::NoSuchName));
+    let old = Times {
+        least: change.old_least,
+        greatest: change.old_greatest,
     };
-    if !may_have(f.code, change.old_least, change.old_greatest) {
-        return Err(placeless(Refusal::OffRange));
+    let new = Times {
+        least: change.new_least,
+        greatest: change.new_greatest,
+    };
+    let Some(f) = find(sheet, index, change.thread, change.statement) else {
+        return Err(Fault::from(Refusal::NoSuchName));
+    };
+    if !may_have(f.code, old) {
+        return Err(Fault::from(Refusal::OffRange));
     }
-    if !shows(f, change.new_least, change.new_greatest) {
-        return Err(placeless(Refusal::ChangedSince));
+    if !shows(f, new) {
+        return Err(Fault::from(Refusal::ChangedSince));
     }
-    write_times(sheet, f.place, change.old_least, change.old_greatest);
+    write_times(sheet, f.place, old);
     Ok(())
 }
 

@@ -5,10 +5,10 @@ ghost use Rattle.reader.specs.Index.{index_of};
 ghost use Rattle.retimed.specs.Retime.{change};
 ghost use Rattle.retimed.specs.Claims.{ReadsRetimed};
 ghost use Rattle.retimed.specs.TakeBackClaims.{ComesBack};
-ghost use Rattle.retime.specs.Shape.{placeless, changed_by, changed_of};
+ghost use Rattle.retime.specs.Shape.{changed_by, changed_of};
 
 use crate::find::find;
-use crate::times::{may_have, write_times};
+use crate::times::{Times, may_have, write_times};
 use reader::{Index, read_sheet};
 use refusal::{Fault, Refusal};
 
@@ -70,25 +70,22 @@ impl From<Result<Change, Fault>> for Changed {
     }
 }
 
-// A refusal of what was asked for speaks of no place in the sheet, and has the place 0.
-pub(crate) fn placeless(refusal: Refusal) -> Fault
-    ensures { result ≡ placeless refusal }
-{
-    Fault { refusal, place: 0 }
-}
-
-// The change of a sheet that reads, by its index.
+// The change of a sheet that reads, by its index. No function for what it shares with `take_back_by`, which asks one test more.
 pub(crate) fn change_by(sheet: &mut [u8], index: &Index, asked: Asked) -> Result<Change, Fault>
     requires { index_of (read_sheet sheet.old) ≡ Ok index.now }
     ensures { changed_of (changed_by result) sheet.new ≡ change sheet.old asked.thread asked.statement asked.least asked.greatest }
 {
     let Some(f) = find(sheet, index, asked.thread, asked.statement) else {
-        return Err(placeless(Refusal::NoSuchName));
+        return Err(Fault::from(Refusal::NoSuchName));
     };
-    if !may_have(f.code, asked.least, asked.greatest) {
-        return Err(placeless(Refusal::OffRange));
+    let times = Times {
+        least: asked.least,
+        greatest: asked.greatest,
+    };
+    if !may_have(f.code, times) {
+        return Err(Fault::from(Refusal::OffRange));
     }
-    write_times(sheet, f.place, asked.least, asked.greatest);
+    write_times(sheet, f.place, times);
     Ok(Change {
         thread: asked.thread,
         statement: asked.statement,

@@ -7,7 +7,7 @@ ghost use Rattle.retime.specs.Shape.{found_at, Finds};
 use expression::num16_at;
 use reader::{Index, MOST_STATEMENTS};
 
-// A statement's place, its code and its times.
+// A statement's place, its code and its times: of the code `field::times_fit` asks, which decides what times it may have (DECISIONS 65).
 #[derive(Clone, Copy)]
 pub struct Found {
     pub place: usize,
@@ -23,11 +23,12 @@ fn found_at(sheet: &[u8], place: usize) -> Found
     Found {
         place,
         code: usize::from(sheet[place + 7]),
-        least: num16_at(sheet, place + 3) as u64,
-        greatest: num16_at(sheet, place + 5) as u64,
+        least: u64::from(num16_at(sheet, place + 3)),
+        greatest: u64::from(num16_at(sheet, place + 5)),
     }
 }
 
+// That the index is the sheet's is a clause and no ghost field of the two: a struct of both would be taken apart at once.
 pub(crate) fn find(sheet: &[u8], index: &Index, thread: usize, statement: usize) -> Option<Found>
     requires { index_of (read_sheet sheet.now) ≡ Ok index.now }
     ensures { Finds sheet.now thread statement result }

@@ -1,4 +1,5 @@
 // New times on one statement of a sheet, what the check would then answer (02, ticket 7), and the change taken back (ticket 8).
+// `as u64` of a usize: std has no `From` for it, and `try_from` would give an `Err` that cannot come.
 #![tactic(auto)]
 
 ghost use Rattle.std.specs.Prelude.{◌≡◌};
@@ -84,8 +85,10 @@ pub extern "C" fn zumbeiry_take_back(
     new_greatest: u64,
     answer: &mut [u64],
 ) -> u32
-    ensures two_in { TwoIn (Back.take_back sheet.old (Rule.from_to thread statement old_least old_greatest new_least new_greatest)) answer.old answer.new result }
-    ensures sheet_after { sheet.new ≡ (Back.take_back sheet.old (Rule.from_to thread statement old_least old_greatest new_least new_greatest)).sheet }
+    ensures two_in { TwoIn (Back.take_back sheet.old (Rule.from_to thread statement old_least old_greatest new_least new_greatest))
+        answer.old answer.new result }
+    ensures sheet_after { sheet.new
+        ≡ (Back.take_back sheet.old (Rule.from_to thread statement old_least old_greatest new_least new_greatest)).sheet }
     ensures all_come_back { AllComeBack sheet.old }
 {
     let change = Change {
@@ -114,9 +117,11 @@ pub extern "C" fn zumbeiry_preview(
     greatest: u64,
     answer: &mut [u64],
 ) -> u32
-    ensures five_in { FiveIn (Rule.preview sheet.now copy.old work.old thread statement least greatest).answer answer.old answer.new result }
+    ensures five_in { FiveIn (Rule.preview sheet.now copy.old work.old thread statement least greatest).answer
+        answer.old answer.new result }
     ensures leaves { Leaves (Rule.preview sheet.now copy.old work.old thread statement least greatest) sheet.now copy.new work.new }
-    ensures holds_retimed { result ≡ 0 → HoldsRetimed sheet.now thread statement least greatest (Rule.preview sheet.now copy.old work.old thread statement least greatest).answer }
+    ensures holds_retimed { result ≡ 0 → HoldsRetimed sheet.now thread statement least greatest
+        (Rule.preview sheet.now copy.old work.old thread statement least greatest).answer }
 {
     let asked = Asked {
         thread,

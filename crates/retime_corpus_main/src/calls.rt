@@ -1,7 +1,7 @@
 // The two calls on an entry's sheet, and what came of them.
-use crate::buffers::{fill_bytes, filled_bytes, read_part, turn, zero_bytes};
-use crate::entry::{Entry, Planted, same_answer, same_change};
-use corpus::{copy_bytes, fill, filled, zeros};
+use crate::buffers::{read_part, turn};
+use crate::entry::{Entry, Planted};
+use corpus::{FILLED, all_are, copy_bytes};
 use retime::{change_times, preview_times};
 use std::io::Read;
 
@@ -15,10 +15,15 @@ pub(crate) struct Verdict {
 }
 
 // Where something is to be changed: at the first of so many, at the last, or nowhere.
-fn change_at(planted: Planted, first: Planted, last: Planted, length: usize) -> Option<usize> {
-    if planted == first {
+fn change_at(
+    planted: Option<Planted>,
+    first: Planted,
+    last: Planted,
+    length: usize,
+) -> Option<usize> {
+    if planted == Some(first) {
         Some(0)
-    } else if planted == last {
+    } else if planted == Some(last) {
         length.checked_sub(1)
     } else {
         None
@@ -26,7 +31,7 @@ fn change_at(planted: Planted, first: Planted, last: Planted, length: usize) -> 
 }
 
 // Whether both buffers are all zeros.
-fn cleared(planted: Planted, copy: &mut [u8], work: &mut [i32]) -> bool {
+fn cleared(planted: Option<Planted>, copy: &mut [u8], work: &mut [i32]) -> bool {
     if let Some(at) = change_at(planted, Planted::CopyFirst, Planted::CopyLast, copy.len()) {
         turn(copy, at);
     }
@@ -35,11 +40,11 @@ fn cleared(planted: Planted, copy: &mut [u8], work: &mut [i32]) -> bool {
             *x = 1;
         }
     }
-    zero_bytes(copy) && zeros(work)
+    all_are(copy, 0) && all_are(work, 0)
 }
 
 // Whether the sheet is as it was.
-fn kept(planted: Planted, sheet: &mut [u8], before: &[u8]) -> bool {
+fn kept(planted: Option<Planted>, sheet: &mut [u8], before: &[u8]) -> bool {
     let Some(at) = change_at(
         planted,
         Planted::SheetFirst,
@@ -56,9 +61,9 @@ fn kept(planted: Planted, sheet: &mut [u8], before: &[u8]) -> bool {
 
 // Whether both buffers hold no zero now.
 fn fill_both(copy: &mut [u8], work: &mut [i32]) -> bool {
-    fill_bytes(copy);
-    fill(work);
-    filled_bytes(copy) && filled(work)
+    copy.fill(FILLED);
+    work.fill(i32::from(FILLED));
+    all_are(copy, FILLED) && all_are(work, i32::from(FILLED))
 }
 
 // The preview: whether its numbers are the stated ones, and whether it left all clean. Buffers that were not full before it show nothing,
@@ -74,11 +79,12 @@ fn preview(
     let a = preview_times(sheet, copy, work, e.asked);
     let clean = cleared(e.planted, copy, work);
     let same = kept(e.planted, sheet, before);
-    (same_answer(a, e), full && clean && same)
+    (a == e.preview, full && clean && same)
 }
 
 // Both calls: the preview, then the change. The second buffer holds a copy of the sheet to compare with, then what the sheet is to be.
-// None where the corpus does not hold the entry whole.
+// None where the corpus does not hold the entry whole. The buffers stand side by side and in no struct: behind one reference the borrow
+// checker does not cover that one is looked at while another is lent.
 pub(crate) fn compare<R: Read>(
     from: &mut R,
     e: Entry,
@@ -87,16 +93,12 @@ pub(crate) fn compare<R: Read>(
     copy: &mut [u8],
     work: &mut [i32],
 ) -> Option<Verdict> {
-    if !copy_bytes(sheet, stated) {
-        return None;
-    }
+    copy_bytes(sheet, stated)?;
     let (numbers, clean) = preview(e, sheet, stated, copy, work);
-    if !read_part(from, stated, e.at, e.otherwise) {
-        return None;
-    }
+    read_part(from, stated, e.at, e.otherwise)?;
     let c = change_times(sheet, e.asked);
     Some(Verdict {
-        numbers: numbers && same_change(c, e),
+        numbers: numbers && (c.refusal, c.place) == e.change,
         clean,
         sheet: *sheet == *stated,
     })

@@ -12,32 +12,55 @@ mod calls;
 mod entry;
 
 use crate::calls::{Verdict, compare};
-use crate::entry::{Entry, FRONT, Planted, entry_of};
-use corpus::{counted, over_entries, put, read_front};
-use files::read_full;
-use std::io::Read;
+use crate::entry::{Entry, Planted};
+use corpus::{Count, counted, front, over_entries, read_front};
+use std::io::{Print, Read};
 
 // Bytes of a sheet and of a copy buffer at most.
 const ROOM: usize = 20000;
 
 const WORK_ROOM: usize = 12000;
 
-// How many entries are right, and how many of these differ, or were not left clean; how many have a wrong number, a wrong sheet or
-// something changed, and how many of these were noticed.
+// The entries that are right, of which none is to differ, and how many were not left clean where nothing was changed; those that have a
+// wrong number, a wrong sheet or something changed.
 #[derive(Clone, Copy, Default)]
 struct Tally {
-    compared: u64,
-    differ: u64,
+    changes: Count,
     unclean: u64,
-    numbers: u64,
-    numbers_noticed: u64,
-    sheets: u64,
-    sheets_noticed: u64,
-    changed: u64,
-    changed_noticed: u64,
+    numbers: Count,
+    sheets: Count,
+    changed: Count,
 }
 
-// Lends the fronts of the buffers.
+impl Tally {
+    // One entry more. What is planted by a number that is not known counts as a change.
+    fn with(self, planted: Option<Planted>, v: Verdict) -> Tally {
+        let unclean = counted(self.unclean, !v.clean);
+        match planted {
+            Some(Planted::Nothing) => Tally {
+                changes: self.changes.with(!(v.numbers && v.sheet)),
+                unclean,
+                ..self
+            },
+            Some(Planted::WrongNumber) => Tally {
+                numbers: self.numbers.with(!v.numbers),
+                unclean,
+                ..self
+            },
+            Some(Planted::WrongSheet) => Tally {
+                sheets: self.sheets.with(v.numbers && !v.sheet),
+                unclean,
+                ..self
+            },
+            _ => Tally {
+                changed: self.changed.with(v.numbers && !v.clean),
+                ..self
+            },
+        }
+    }
+}
+
+// Lends the fronts of the buffers; none where more is to be lent than there is.
 fn lend<R: Read>(
     from: &mut R,
     e: Entry,
@@ -53,24 +76,6 @@ fn lend<R: Read>(
     compare(from, e, sheet, stated, copy, work)
 }
 
-fn added(t: Tally, v: Verdict, planted: Planted) -> Tally {
-    let right = planted == Planted::Nothing;
-    let number = planted == Planted::WrongNumber;
-    let sheet = planted == Planted::WrongSheet;
-    let changed = !right && !number && !sheet;
-    Tally {
-        compared: counted(t.compared, right),
-        differ: counted(t.differ, right && !(v.numbers && v.sheet)),
-        unclean: counted(t.unclean, !changed && !v.clean),
-        numbers: counted(t.numbers, number),
-        numbers_noticed: counted(t.numbers_noticed, number && !v.numbers),
-        sheets: counted(t.sheets, sheet),
-        sheets_noticed: counted(t.sheets_noticed, sheet && v.numbers && !v.sheet),
-        changed: counted(t.changed, changed),
-        changed_noticed: counted(t.changed_noticed, changed && v.numbers && !v.clean),
-    }
-}
-
 // One entry more; none where the corpus does not hold it whole.
 fn compare_next<R: Read>(
     from: &mut R,
@@ -80,16 +85,10 @@ fn compare_next<R: Read>(
     copy: &mut [u8],
     work: &mut [i32],
 ) -> Option<Tally> {
-    let mut front = [0u8; FRONT];
-    if read_full(from, &mut front) < FRONT {
-        return None;
-    }
-    let e = entry_of(&front);
-    if !read_front(from, sheet, e.sheet) {
-        return None;
-    }
+    let e = Entry::from(front(from)?);
+    read_front(from, sheet, e.sheet)?;
     let v = lend(from, e, sheet, stated, copy, work)?;
-    Some(added(t, v, e.planted))
+    Some(t.with(e.planted, v))
 }
 
 fn main(rt: HostRuntime) {
@@ -97,23 +96,17 @@ fn main(rt: HostRuntime) {
     let mut stated = [0u8; ROOM];
     let mut copy = [0u8; ROOM];
     let mut work = [0i32; WORK_ROOM];
-    let tally = over_entries(&mut rt.stdin(), Tally::default(), |from, t| {
+    let Some(t) = over_entries(&mut rt.stdin(), Tally::default(), |from, t| {
         compare_next(from, t, &mut sheet, &mut stated, &mut copy, &mut work)
-    });
-    let Some(t) = tally else {
+    }) else {
         return;
     };
-    put(rt, t.compared, b" changes compared, ");
-    put(rt, t.differ, b" differ, ");
-    put(
-        rt,
-        t.unclean,
-        b" not left clean; noticed of what is planted: ",
+    let _ = print!(rt;
+        "{} changes compared, {} differ, {} not left clean; noticed of what is planted: ",
+        t.changes.all, t.changes.noticed, t.unclean
     );
-    put(rt, t.numbers_noticed, b" of ");
-    put(rt, t.numbers, b" wrong numbers, ");
-    put(rt, t.sheets_noticed, b" of ");
-    put(rt, t.sheets, b" wrong sheets, ");
-    put(rt, t.changed_noticed, b" of ");
-    put(rt, t.changed, b" changed buffers\n");
+    let _ = println!(rt;
+        "{} wrong numbers, {} wrong sheets, {} changed buffers",
+        t.numbers, t.sheets, t.changed
+    );
 }

@@ -1,10 +1,19 @@
-// What the program's words ask for.
+// What the program's words ask for. A number becomes a `usize` by `as`: std has no `From` for it, and a `try_from` would
+// give an error that cannot come.
 ghost use Rattle.std.specs.Prelude.{◌≡◌};
 ghost use Rattle.retime_main.specs.Words.{asked_in, back_in, Says};
 
 use digits::number_in;
-use files::{MOST_OF_WORD, word};
+use files::{MOST_OF_WORD, word, word_count};
 use retime::{Asked, Change};
+
+// What the words ask for: what new times would give, the new times, or a change taken back.
+#[derive(Clone, Copy)]
+pub(crate) enum Asks {
+    Preview(Asked),
+    Change(Asked),
+    TakeBack(Change),
+}
 
 // What four words ask for, each a number in decimal.
 #[tactic(auto, unfolding(crate::specs::Words::asked_in))]
@@ -21,7 +30,7 @@ fn asked_in(thread: &[u8], statement: &[u8], least: &[u8], greatest: &[u8]) -> O
 
 // The four words behind SHEET: of new times all, of a change taken back the statement and its old times. One that is missing, or has
 // more than 4,096 bytes, writes no number.
-pub(crate) fn times_given(rt: HostRuntime) -> Option<Asked> {
+fn times_given(rt: HostRuntime) -> Option<Asked> {
     let mut thread = [0u8; MOST_OF_WORD];
     let a = word(rt, 2, &mut thread);
     let mut statement = [0u8; MOST_OF_WORD];
@@ -50,7 +59,7 @@ fn back_in(old: Option<Asked>, least: &[u8], greatest: &[u8]) -> Option<Change>
 }
 
 // What the six words behind SHEET say.
-pub(crate) fn back_given(rt: HostRuntime) -> Option<Change> {
+fn back_given(rt: HostRuntime) -> Option<Change> {
     let old = times_given(rt);
     let mut least = [0u8; MOST_OF_WORD];
     let a = word(rt, 6, &mut least);
@@ -67,8 +76,18 @@ fn says_write(word: &[u8]) -> bool
 }
 
 // Whether the last argument is `write`.
-pub(crate) fn write_given(rt: HostRuntime) -> bool {
+fn write_given(rt: HostRuntime) -> bool {
     let mut given = [0u8; MOST_OF_WORD];
     let n = word(rt, 6, &mut given);
     says_write(&given[..n])
+}
+
+// What all the words ask for.
+pub(crate) fn asks_given(rt: HostRuntime) -> Option<Asks> {
+    match word_count(rt) {
+        6 => times_given(rt).map(Asks::Preview),
+        7 if write_given(rt) => times_given(rt).map(Asks::Change),
+        8 => back_given(rt).map(Asks::TakeBack),
+        _ => None,
+    }
 }

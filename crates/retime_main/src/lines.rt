@@ -1,4 +1,5 @@
-// What the program prints of a sheet, at the front of a buffer.
+// What the program prints of a sheet, at the front of a buffer. A number becomes a `usize` by `as`: std has no `From` for it, and a
+// `try_from` would give an error that cannot come.
 ghost use Rattle.std.specs.Prelude.{◌+◌, ◌≤◌, length};
 ghost use Rattle.rules.specs.Constants.{longest_sheet};
 ghost use Rattle.label.specs.Shape.{answer_of};
@@ -15,9 +16,6 @@ use writing::{put_bytes, put_five, put_line};
 const LENT: usize = 12000;
 
 const COPY: usize = 16384;
-
-// Two lines of five numbers.
-pub(crate) const LONGEST_PRINTED: usize = 130;
 
 // Eight numbers, each of twenty digits and a byte behind them, and a sheet as long as may be read.
 pub(crate) const LONGEST_WRITTEN: usize = 16553;
@@ -63,7 +61,7 @@ fn put_change(out: &mut [u8], c: Changed) -> usize
     )
 }
 
-// The sheet that is to be written: none behind a refusal.
+// The sheet that is to be written: none behind a refusal, a number of the answer as the call for C gives it.
 fn put_sheet(out: &mut [u8], at: usize, refusal: u32, sheet: &[u8]) -> usize
     ensures { Writes (sheet_text refusal sheet.now) out.old at out.new result }
 {

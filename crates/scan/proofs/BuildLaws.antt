@@ -117,9 +117,9 @@ module _ {m : Bytes} {at e : ℕ} {codes : Bytes} {c : ℕ} (bound : e ≤ 65536
     top = omega arith;
   }
 
-  pub kept-pending : {after codes' : Bytes} {end' : ℕ} → Keeps m at e codes c after end' codes' → KeepsPending m at e codes c after end' codes'
-  kept-pending u =
-      let a = kept_by (ltb (length codes) 32) in
+  pub kept-pending : {room : ℕ} {after codes' : Bytes} {end' : ℕ} → Keeps room m at e codes c after end' codes' → KeepsPending m at e codes c after end' codes'
+  kept-pending {room = room} u =
+      let a = kept_by (ltb (length codes) room) in
       let b = u.bytes_are in
       let d = u.end_is in
       let f = u.codes_are in
@@ -131,25 +131,25 @@ wrote-put o after at k b h j = record { end_is = j; bytes_are = λ t r. h }
 
 -- ---- results by their cases
 
-module _ {A : Type 0} (F : Form A) (s out : Bytes) (at : ℕ) (after : Bytes) (g : Read A) (x : Result Built ℕ) (b : Builds F s out at after g x) where
+module _ {A : Type 0} (F : Form A) (s out : Bytes) (at : ℕ) (after : Bytes) (g : Read A) (x : Result (Built Bool) ℕ) (b : Builds F s out at after g x) where
   pub built-stop : {q : ℕ} → x ≡ Err q → g ≡ stop (drop q s)
   unfolding Builds
   built-stop e = subst (Builds F s out at after g) e b
 
-  pub built-took : {y : Built} → x ≡ Ok y → Made F s out at after g y
+  pub built-took : {y : Built Bool} → x ≡ Ok y → Made F s out at after g y
   unfolding Builds
   built-took e = subst (Builds F s out at after g) e b
 
   pub builds-as : {h : Read A} → h ≡ g → Builds F s out at after h x
   builds-as e = subst (λ k. Builds F s out at after k x) (sym e) b
 
-pub made_of : {A : Type 0} {F : Form A} {s out : Bytes} {at : ℕ} {after : Bytes} {g : Read A} {b : Built} → Builds F s out at after g (Ok b)
+pub made_of : {A : Type 0} {F : Form A} {s out : Bytes} {at : ℕ} {after : Bytes} {g : Read A} {b : Built Bool} → Builds F s out at after g (Ok b)
     → Made F s out at after g b
 unfolding Builds
 made_of b = b
 
 -- what was made stands written
-pub made-begun : {A : Type 0} {F : Form A} {s out after : Bytes} {at : ℕ} {g : Read A} {b : Built}
+pub made-begun : {A : Type 0} {F : Form A} {s out after : Bytes} {at : ℕ} {g : Read A} {b : Built Bool}
     → (m : Made F s out at after g b) → length out ≡ length after → Begun F out at after b m.thing
 made-begun m r = record { fit_is = m.fit_is; wrote = m.wrote; room = r }
 
@@ -160,7 +160,7 @@ pub record Within {A B : Type 0} (F : Form A) (G : Form B) (h : A → B) : Type 
   pub logical_is : (a : A) → G.logical (h a) ≡ F.logical a
 
 module _ {A B : Type 0} {F : Form A} {G : Form B} {h : A → B} (w : Within F G h) where
-  pub made-within : {s out after : Bytes} {at : ℕ} {g : Read A} {b : Built} → Made F s out at after g b → Made G s out at after (map_read h g) b
+  pub made-within : {s out after : Bytes} {at : ℕ} {g : Read A} {b : Built Bool} → Made F s out at after g b → Made G s out at after (map_read h g) b
   unfolding map_read
   made-within {out = out} {after} {at} {b = b} m = record {
     thing = h m.thing;
@@ -170,7 +170,7 @@ module _ {A B : Type 0} {F : Form A} {G : Form B} {h : A → B} (w : Within F G 
     wrote = subst (λ z. Wrote out at z b.fits after b.end) (sym (w.bytes_are m.thing)) m.wrote;
   }
 
-  pub builds-within : (s out : Bytes) (at : ℕ) (after : Bytes) (g : Read A) (x : Result Built ℕ) → Builds F s out at after g x
+  pub builds-within : (s out : Bytes) (at : ℕ) (after : Bytes) (g : Read A) (x : Result (Built Bool) ℕ) → Builds F s out at after g x
       → Builds G s out at after (map_read h g) x
   unfolding Builds map_read
   builds-within s out at after g (Ok y) b = made-within b
@@ -178,7 +178,7 @@ module _ {A B : Type 0} {F : Form A} {G : Form B} {h : A → B} (w : Within F G 
 
 -- ---- places
 
-pub onward-from : {s : Bytes} {p at q e : ℕ} (x : Result Built ℕ) → p ≤ q → at ≤ e → OnwardBuilt s q e x → OnwardBuilt s p at x
+pub onward-from : {K : Type 0} {s : Bytes} {p at q e : ℕ} (x : Result (Built K) ℕ) → p ≤ q → at ≤ e → OnwardBuilt s q e x → OnwardBuilt s p at x
 onward-from (Ok b) h j o =
     let a = o.on in
     let b = o.from in

@@ -1,5 +1,6 @@
 -- Readings one behind the other, what was read replaced, a line's end, and a range's two ends.
-use Rattle.std.specs.Prelude.{if◌then◌else◌}
+use Rattle.std.specs.Prelude.{if◌then◌else◌, Result, Err, IsErrAnd}
+use Rattle.std.proofs.lemmas.Result.{err_from_is_err_and}
 use mathlib.Core.Path.{◌≡◌, refl, sym, ap, ◌∙◌}
 use mathlib.Core.Bool.{Bool, true, false}
 use mathlib.Core.List.{[], ◌∷◌}
@@ -9,13 +10,10 @@ use lib.Dec.{eqb}
 use Rattle.rules.specs.Format.{Bytes}
 use Rattle.text.specs.Words.{bytes, Read, stop, took, then_read, map_read, spaces, symbol, newline, line_end}
 use Rattle.text.specs.Lines.{range, word_only, head_line}
-use Rattle.scan.specs.Reading.{read_of, same, unit}
-use Rattle.std.specs.Prelude.{Result, Ok, Err}
 
-pub as-unit : (s : Bytes) (x : Result (ℕ × ℕ) ℕ) → read_of unit s x ≡ map_read unit (read_of same s x)
-unfolding map_read
-as-unit s (Ok (v, q)) = refl
-as-unit s (Err q) = refl
+-- at the exit of a `?`
+pub exits : {T E : Type 0} (P : Result T E → Type 0) {r : Result T E} {q : E} → IsErrAnd r (λ e. e ≡ q) → P (Err q) → P r
+exits P {r} i h = let p = err_from_is_err_and r i in rw (p.1, p.2) h
 
 -- ---- what was read replaced
 

@@ -17,11 +17,10 @@ use Rattle.rules.specs.Constants.{half32}
 use Rattle.text.specs.Convert.{fits_signed}
 use Rattle.text.specs.Words.{Read, stop, took, map_read, is_digit, is_letter, apart, numeral, negative, word, following, whole, or_none, or_whole, spell}
 use Rattle.rules.proofs.Interval.{in-range-is}
-use Rattle.scan.specs.Reading.{read_of, same, unit, capped, value_code, word_here}
+use Rattle.scan.specs.Reading.{read_of, same, capped, value_code, word_here}
 use Rattle.std.specs.Prelude.{Result, Option, Some, None, MatchOption, ◌==◌}
 use Rattle.std.specs.Option.{option_eq}
 use Rattle.std.proofs.Common.{Bor}
-use Rattle.scan.proofs.Readings.{as-unit}
 
 -- the bytes from a place on
 pub here : (s : Bytes) (p : ℕ) → p < length s → drop p s ≡ get_or s p 0 ∷ drop (p + 1) s
@@ -62,8 +61,14 @@ unfolding apart map_read
 map-apart f a [] = refl
 map-apart f a (b ∷ s) = map-choice f a (is_digit b || is_letter b) (b ∷ s)
 
-pub apart_unit : (s : Bytes) (r : Result (ℕ × ℕ) ℕ) (t : Bytes) (v : ℕ) → read_of same s r ≡ apart v t → read_of unit s r ≡ apart tt t
-apart_unit s r t v h = as-unit s r ∙ ap (map_read unit) h ∙ map-apart unit v t
+-- nothing meets a number that was read: it stands, and the place is the same
+pub apart-number : (s : Bytes) (w q : ℕ) (t : Bytes) → took tt (drop q s) ≡ apart {A = Unit {0}} tt t → took w (drop q s) ≡ apart w t
+unfolding map_read
+apart-number s w q t h = ap (map_read (λ _. w)) h ∙ map-apart {A = Unit {0}} (λ _. w) tt t
+
+pub apart-stop : (s : Bytes) (w q : ℕ) (t : Bytes) → stop (drop q s) ≡ apart {A = Unit {0}} tt t → stop (drop q s) ≡ apart w t
+unfolding map_read
+apart-stop s w q t h = ap (map_read (λ _. w)) h ∙ map-apart {A = Unit {0}} (λ _. w) tt t
 
 -- ---- numbers
 

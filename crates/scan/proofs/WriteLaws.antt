@@ -62,20 +62,20 @@ reverse_more codes k c h = ap reverse (take_more_set codes k c h) ∙ reverse-ap
 long : (codes : List ℕ) (n : ℕ) → n ≤ length codes → length (reverse (take n codes)) ≡ n
 long codes n h = length-reverse (take n codes) ∙ length-take-le n codes h
 
-module _ (codes : List ℕ) (n c : ℕ) {m : List ℕ} {at e : ℕ} (l : length codes ≡ 32) where
+module _ (room : ℕ) (codes : List ℕ) (n c : ℕ) {m : List ℕ} {at e : ℕ} (l : length codes ≡ room) where
   -- there is room for it beside the others
-  pub keeps-beside : n < 32 → Keeps m at e (reverse (take n codes)) c m e (reverse (take (n + 1) (set codes n c)))
+  pub keeps-beside : n < room → Keeps room m at e (reverse (take n codes)) c m e (reverse (take (n + 1) (set codes n c)))
   keeps-beside h =
       let k = long codes n (omega arith) in
-      let t = lt-ltb (length (reverse (take n codes))) 32 (omega arith) in
+      let t = lt-ltb (length (reverse (take n codes))) room (omega arith) in
       record { bytes_are = rw t; end_is = rw t; codes_are = rw t (reverse_more codes n c (omega arith)) }
 
   -- there is none: it waits alone
-  pub keeps-alone : n ≡ 32 → {after : List ℕ} {end : ℕ} → after ≡ inserted m at e (reverse (take n codes)) → end ≡ min (e + length (reverse (take n codes))) 65536
-      → Keeps m at e (reverse (take n codes)) c after end (reverse (take (0 + 1) (set codes 0 c)))
-  keeps-alone h i j =
+  pub keeps-alone : 0 < room → n ≡ room → {after : List ℕ} {end : ℕ} → after ≡ inserted m at e (reverse (take n codes)) → end ≡ min (e + length (reverse (take n codes))) 65536
+      → Keeps room m at e (reverse (take n codes)) c after end (reverse (take (0 + 1) (set codes 0 c)))
+  keeps-alone z h i j =
       let k = long codes n (omega arith) in
-      let t = le-ltb (length (reverse (take n codes))) 32 (omega arith) in
+      let t = le-ltb (length (reverse (take n codes))) room (omega arith) in
       record { bytes_are = i ∙ rw t; end_is = j ∙ rw t; codes_are = rw t (reverse_more codes 0 c (omega arith)) }
 
 -- ---- bytes one behind the other

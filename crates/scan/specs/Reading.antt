@@ -13,8 +13,10 @@ read_of f s (Err q) = stop (drop q s)
 abbrev pub same : ℕ → ℕ
 same v = v
 
-abbrev pub unit : ℕ → Unit {0}
-unit v = tt
+-- the place behind something that says no more than that it stands there, or of the first byte that cannot go on
+abbrev pub passed : Bytes → Result ℕ ℕ → Read (Unit {0})
+passed s (Ok q) = took tt (drop q s)
+passed s (Err q) = stop (drop q s)
 
 abbrev pub Onward : Bytes → ℕ → ℕ → Type 0
 Onward s p q = (p ≤ q) × (q ≤ length s)
@@ -22,6 +24,13 @@ Onward s p q = (p ≤ q) × (q ≤ length s)
 abbrev pub place_of : Result (ℕ × ℕ) ℕ → ℕ
 place_of (Ok (v, q)) = q
 place_of (Err q) = q
+
+abbrev pub passed_place : Result ℕ ℕ → ℕ
+passed_place (Ok q) = q
+passed_place (Err q) = q
+
+abbrev pub OnwardPassed : Bytes → ℕ → Result ℕ ℕ → Type 0
+OnwardPassed s p r = Onward s p (passed_place r)
 
 abbrev pub OnwardStep : Bytes → ℕ → Result (ℕ × ℕ) ℕ → Type 0
 OnwardStep s p r = Onward s p (place_of r)

@@ -18,34 +18,34 @@ pub record Form (A : Type 0) : Type 0 where
   pub logical : A → Bool
 
 -- something was read, up to the place behind it, and written
-pub record Made {A : Type 0} (F : Form A) (s out : Bytes) (at : ℕ) (after : Bytes) (g : Read A) (b : Built) : Type 0 where
+pub record Made {A : Type 0} (F : Form A) (s out : Bytes) (at : ℕ) (after : Bytes) (g : Read A) (b : Built Bool) : Type 0 where
   pub thing : A
   pub is : g ≡ took thing (drop b.place s)
-  pub kind : b.condition ≡ F.logical thing
+  pub kind : b.kind ≡ F.logical thing
   pub fit_is : b.fits ≡ F.fits thing
   pub wrote : Wrote out at (F.bytes thing) b.fits after b.end
 
-unfoldable pub Builds : {A : Type 0} → Form A → Bytes → Bytes → ℕ → Bytes → Read A → Result Built ℕ → Type 0
+unfoldable pub Builds : {A : Type 0} → Form A → Bytes → Bytes → ℕ → Bytes → Read A → Result (Built Bool) ℕ → Type 0
 Builds F s out at after g (Ok b) = Made F s out at after g b
 Builds F s out at after g (Err q) = g ≡ stop (drop q s)
 
-abbrev pub built_place : Result Built ℕ → ℕ
+abbrev pub built_place : {K : Type 0} → Result (Built K) ℕ → ℕ
 built_place (Ok b) = b.place
 built_place (Err q) = q
 
-abbrev pub built_end : ℕ → Result Built ℕ → ℕ
+abbrev pub built_end : {K : Type 0} → ℕ → Result (Built K) ℕ → ℕ
 built_end at (Ok b) = b.end
 built_end at (Err q) = at
 
 -- neither the place nor the end goes back
-pub record OnwardBuilt (s : Bytes) (p at : ℕ) (r : Result Built ℕ) : Type 0 where
+pub record OnwardBuilt {K : Type 0} (s : Bytes) (p at : ℕ) (r : Result (Built K) ℕ) : Type 0 where
   pub on : p ≤ built_place r
   pub inside : built_place r ≤ length s
   pub from : at ≤ built_end at r
   pub top : built_end at r ≤ 65536
 
 -- a thing stands written, and what is read goes on behind it
-pub record Begun {A : Type 0} (F : Form A) (out : Bytes) (at : ℕ) (now : Bytes) (b : Built) (a : A) : Type 0 where
+pub record Begun {A : Type 0} (F : Form A) (out : Bytes) (at : ℕ) (now : Bytes) (b : Built Bool) (a : A) : Type 0 where
   pub fit_is : b.fits ≡ F.fits a
   pub wrote : Wrote out at (F.bytes a) b.fits now b.end
   pub room : length out ≡ length now

@@ -1,4 +1,7 @@
-// Writing: bytes are put where the output has room, and places are counted up to a bound that is past it.
+// Writing: bytes are put where the output has room, and places are counted up to a bound that is past it. `put` and `put_bytes` are not
+// those of `writing`: there a place stops one past the end, here it is counted on. The output and the place stay apart, since each call
+// has another place: a struct would be made anew at each. `as` where the number is known to fit: `try_from` would give an `Err` that cannot
+// come.
 ghost use Rattle.std.specs.Prelude.{◌≡◌, ◌∷◌, ◌+◌, ◌≤◌, ◌<◌, min, length, reverse, set};
 ghost use Rattle.std.proofs.lemmas.List.Edits.{sets};
 ghost use Rattle.rules.specs.Encoding.{two, four};
@@ -51,7 +54,8 @@ pub fn put_four(out: &mut [u8], at: usize, v: u64)
     put_bytes(out, at, &(v as u32).to_be_bytes());
 }
 
-// A constant: its code, and the 32 bits of its value.
+// A constant: its code, and the 32 bits of its value. The code is the sheet's own byte, written as it is: an enum would only be turned back
+// into it.
 pub fn put_constant(out: &mut [u8], at: usize, v: u64)
     requires { (at ≤ 65536) × (v < 4294967296) }
     ensures { out.new ≡ sets out.old at (16 ∷ four v) }

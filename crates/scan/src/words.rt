@@ -1,10 +1,12 @@
-// Words and numbers: every function takes the text s and a place p in it, and reads what stands from there on.
+// Words and numbers: every function takes the text s and a place p in it, and reads what stands from there on. The two stay apart, since
+// each call has another place: a struct would be made anew at each.
 ghost use Rattle.std.specs.Prelude.{◌≡◌, ℕ, ◌+◌, ◌-◌, ◌*◌, ◌≤◌, ◌<◌, length, drop, pos};
 ghost use Rattle.rules.specs.Format.{Bytes};
 ghost use Rattle.text.specs.Words.{Read, map_read, is_digit, is_letter, spaces, apart, numeral, digits, number, negative, symbol};
-ghost use Rattle.scan.specs.Reading.{read_of, same, unit, Onward, OnwardStep, place_of, capped, value_code, word_here};
+ghost use Rattle.scan.specs.Reading.{read_of, same, passed, Onward, OnwardStep, OnwardPassed, place_of, capped, value_code, word_here};
 
-// A number past every field's: 2^32.
+// A number past every field's, 2^32, stands for one that is too big: `capped` and `value_code` of the views that the clauses name are
+// numbers too.
 pub const TOO_BIG: u64 = 4294967296;
 
 #[tactic(auto, unfolding(text::specs::Words::is_digit))]
@@ -21,7 +23,7 @@ fn is_letter(b: u8) -> bool
     b.is_ascii_lowercase()
 }
 
-// The place behind spaces.
+// The place behind spaces. `position` was tried: its goal by hand was longer than the loop.
 #[tactic(auto, using(crate::proofs::WordLaws::places), unfolding(text::specs::Words::spaces))]
 pub fn spaces_end(s: &[u8], p: usize) -> usize
     requires { p ≤ length s.now }
@@ -36,16 +38,16 @@ pub fn spaces_end(s: &[u8], p: usize) -> usize
     s.len()
 }
 
-// Behind a word of letters or digits no letter or digit stands.
+// Behind a word of letters or digits no letter or digit stands: the same place.
 #[tactic(auto, using(crate::proofs::WordLaws::places), unfolding(text::specs::Words::apart))]
-pub(crate) fn apart_at(s: &[u8], v: u64, p: usize) -> Result<(u64, usize), usize>
+pub(crate) fn apart_at(s: &[u8], p: usize) -> Result<usize, usize>
     requires { p ≤ length s.now }
-    ensures reads { read_of same s.now result ≡ apart v (drop p s.now) }
-    ensures onward { OnwardStep s.now p result }
+    ensures reads { passed s.now result ≡ apart tt (drop p s.now) }
+    ensures onward { OnwardPassed s.now p result }
 {
     match s.get(p) {
         Some(b) if is_digit(*b) || is_letter(*b) => Err(p),
-        _ => Ok((v, p)),
+        _ => Ok(p),
     }
 }
 
@@ -57,7 +59,7 @@ fn grown(v: u64, b: u8) -> u64
     (v * 10 + u64::from(b.saturating_sub(b'0'))).min(TOO_BIG)
 }
 
-// The digits that follow a number read so far.
+// The digits that follow a number read so far. The number grows as the place goes on, and both are given.
 #[tactic(auto, using(crate::proofs::WordLaws::places), unfolding(crate::proofs::Opened::numbers))]
 fn numeral_at(s: &[u8], v: u64, p: usize) -> Result<(u64, usize), usize>
     requires { (p ≤ length s.now) × (v ≤ 4294967296) }
@@ -67,7 +69,8 @@ fn numeral_at(s: &[u8], v: u64, p: usize) -> Result<(u64, usize), usize>
     let mut w = v;
     for q in p..s.len() {
         if !is_digit(s[q]) {
-            return apart_at(s, w, q);
+            let end = apart_at(s, q)?;
+            return Ok((w, end));
         }
         w = grown(w, s[q]);
     }
@@ -137,26 +140,26 @@ pub fn negated(x: Result<(u64, usize), usize>) -> Result<(u64, usize), usize>
     x.map(|(v, q)| (negative_code(v), q))
 }
 
-// One word, right here.
-pub(crate) fn word_at(s: &[u8], p: usize, w: &[u8]) -> Result<(u64, usize), usize>
+// One word, right here: the place behind it. `starts_with` does not say at which byte it stops.
+pub(crate) fn word_at(s: &[u8], p: usize, w: &[u8]) -> Result<usize, usize>
     requires { (p ≤ length s.now) × (0 < length w.now) }
-    ensures reads { read_of unit s.now result ≡ word_here w.now (drop p s.now) }
-    ensures onward { OnwardStep s.now p result }
+    ensures reads { passed s.now result ≡ word_here w.now (drop p s.now) }
+    ensures onward { OnwardPassed s.now p result }
 {
     for (k, b) in w.iter().enumerate() {
         if s.get(p + k) != Some(b) {
             return Err(p + k);
         }
     }
-    Ok((0, p + w.len()))
+    Ok(p + w.len())
 }
 
-// One word of other signs.
+// One word of other signs: the place behind it.
 #[tactic(auto, unfolding(text::specs::Words::symbol))]
-pub fn symbol_at(s: &[u8], p: usize, w: &[u8]) -> Result<(u64, usize), usize>
+pub fn symbol_at(s: &[u8], p: usize, w: &[u8]) -> Result<usize, usize>
     requires { (p ≤ length s.now) × (0 < length w.now) }
-    ensures reads { read_of unit s.now result ≡ symbol w.now (drop p s.now) }
-    ensures onward { OnwardStep s.now p result }
+    ensures reads { passed s.now result ≡ symbol w.now (drop p s.now) }
+    ensures onward { OnwardPassed s.now p result }
 {
     word_at(s, spaces_end(s, p), w)
 }

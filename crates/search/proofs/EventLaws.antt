@@ -6,7 +6,6 @@ use mathlib.Core.List.{List, ◌∷◌}
 use Prim.Native.Nat.{ℕ, suc, ◌+◌, ◌≤◌, ◌<◌, max}
 use native.Mathlib.Omega.{arith}
 use borrow.Author.Tests.{le-leb, lt-leb}
-use lib.IntN.{ℤ}
 use lib.ListN.{length, get_or}
 use Rattle.rules.specs.Constants.{half32, most_threads}
 use Rattle.rules.specs.Program.{is_halt, Statement}
@@ -26,13 +25,14 @@ use Rattle.state.proofs.Slot.{decode-sound}
 use Rattle.state.proofs.Shape.{state-thread, state-threads-length, sizes-threads, sizes-regs}
 use Rattle.event.specs.Fetch.{names_of, Fetches, OfProgram}
 use Rattle.event.proofs.fetch.Asks.{of-program}
-use Rattle.event.specs.Push.{Room}
-use Rattle.event.specs.Act.{Asks, Acts}
+use Rattle.event.specs.Act.{Ticks}
+use Rattle.event.specs.Stack.{Leaves}
+use Rattle.event.specs.declared.stack.Stack.{Stack}
 use Rattle.event.specs.declared.act.Event.{Event}
 use Rattle.event.specs.declared.fetch.Fetched.{Fetched}
 use Rattle.search.specs.Survey.{earliest_of, earliest_at}
 use Rattle.search.specs.Taken.{IsReady, program_of, sizes_in, rules_state, live_in}
-use Rattle.search.specs.Turn.{Makes, height_of, over_of, event_of, events_in}
+use Rattle.search.specs.Turn.{MakesMore, over_of, event_of, events_in}
 use Rattle.search.specs.declared.taken.Taken.{Taken}
 use Rattle.search.proofs.TurnLaws.{live-step, events-halted, events-passed, events-before, over-makes}
 
@@ -125,16 +125,10 @@ module _ (x : Taken) (t : ℕ) (ready : IsReady x) (there : t < length (program_
         OfProgram (program_of x) v.thread v.registers
         × ((st : Statement) × Fetches x.sheet.now (names_of (program_of x) v.thread) (thread_at (decode x.cells.now) v.thread).at st f)
 
-    pub act-asks : {v : Event} → v ≡ its-event → start ≤ end → end < half32 → {b : List ℤ} {slots height : ℕ} → Room slots b
-        → height ≤ slots + 1
-        → Asks v b height slots × Due v
-    act-asks {v} q l u {b} {slots} {height} room high =
-        subst (λ (w : Event). Asks w b height slots × Due w) (sym q) (
-          record {
-            ticks = record { thread = let a = ready.facts.threads_few in omega arith; from_small = omega arith; to_small = u };
-            room = room;
-            high = high;
-          },
+    pub act-asks : {v : Event} → v ≡ its-event → start ≤ end → end < half32 → Ticks v × Due v
+    act-asks {v} q l u =
+        subst (λ (w : Event). Ticks w × Due w) (sym q) (
+          record { thread = let a = ready.facts.threads_few in omega arith; from_small = omega arith; to_small = u },
           (of-program x.sheet.now (program_of x) x.plan x.places.now ready t there, (statement, fetched)),
         )
 
@@ -157,10 +151,9 @@ module _ (x : Taken) (t : ℕ) (ready : IsReady x) (there : t < length (program_
 
     pub event-makes : {v : Event} → v ≡ its-event → (latest : ℕ) (earliest : Time) → earliest_at x t ≡ Some earliest
         → start ≡ max latest earliest.0 → start ≤ end
-        → (slots : ℕ) (b c d : List ℤ) (h height : ℕ) (later : Result ℕ Fault) (k : Result ℕ Refusal) → height ≡ height_of later h
-        → Makes (sizes_in x) slots b h c later (events_in x latest end (suc t)) → Acts (sizes_in x) slots c d height k (effect_of v)
-        → Makes (sizes_in x) slots b h d (over_of later k f.place) (events_in x latest end t)
-    event-makes {v} q latest earliest lives at_start l slots b c d h height later k e makes acts =
+        → (b c : Stack) (later : Result (Unit {0}) Fault) (acted : Result (Unit {0}) Refusal) → Leaves (sizes_in x) b c acted (effect_of v)
+        → MakesMore x latest end t b c later (over_of later acted f.place)
+    event-makes {v} q latest earliest lives at_start l b c later acted leaves = λ a stack makes.
         let live = lives_at halted thread.clock.low.0 statement.least earliest lives in
         let from-is : start ≡ from latest end = at_start ∙ ap (max latest) live.1 in
         let same : events_in x latest end t ≡ before f.place (effect_of v) (events_in x latest end (suc t)) =
@@ -168,4 +161,4 @@ module _ (x : Taken) (t : ℕ) (ready : IsReady x) (there : t < length (program_
         ∙ (λ i. before (sym fetched.place i) (effect (rules_state x) t stands (sym from-is i) end statement.action)
         (events_in x latest end (suc t)))
         ∙ ap (λ (n : S.Next). before f.place n (events_in x latest end (suc t))) (sym (effect-is q)) in
-        rw same (over-makes (sizes_in x) slots b c d h later (events_in x latest end (suc t)) f.place k (effect_of v) makes (rw e at acts))
+        rw same (over-makes (sizes_in x) a b c (sym stack.1) later (events_in x latest end (suc t)) f.place acted (effect_of v) makes leaves)

@@ -1,11 +1,10 @@
 -- Laws of a turn: what the events from one thread on come to, from those of the later threads.
-use Rattle.std.specs.Prelude.{if◌then◌else◌, Result, Ok, Err}
-use mathlib.Core.Path.{◌≡◌, refl, ap, subst, ◌∙◌}
+use Rattle.std.specs.Prelude.{if◌then◌else◌, None, Result, Ok, Err}
+use mathlib.Core.Path.{◌≡◌, refl, ap, ◌∙◌}
 use mathlib.Core.Bool.{Bool, true, false}
 use mathlib.Core.List.{List, ◌∷◌}
 use Prim.Native.Nat.{ℕ, suc, ◌+◌, ◌<◌, max}
 use lib.Dec.{leb}
-use lib.IntN.{ℤ}
 use lib.ListN.{length, get_or}
 use lib.Seq.{drop-cons}
 use Rattle.rules.specs.Refusal as R
@@ -17,12 +16,11 @@ use Rattle.refusal.specs.declared.Refusal.{Refusal}
 use Rattle.refusal.specs.declared.Fault.{Fault}
 use Rattle.reader.specs.Facts.{statement_in}
 use Rattle.state.specs.Shape.{Sizes}
-use Rattle.event.specs.Push.{Pushed}
+use Rattle.event.specs.Stack.{Grows, Leaves}
+use Rattle.event.specs.declared.stack.Stack.{Stack}
 use Rattle.event.proofs.PushLaws.{then-pushed}
-use Rattle.event.specs.Act.{Acts}
 use Rattle.search.specs.Taken.{live_after}
-use Rattle.search.specs.Turn.{Makes, height_of, Turns, over_of}
-use Rattle.search.specs.declared.turn.Turned.TheVariants.{Height}
+use Rattle.search.specs.Turn.{Makes, Turns, over_of}
 
 -- ---- the live threads from thread t on
 
@@ -62,51 +60,48 @@ events-before s latest bound b v vs e f = rw (e, events, f)
 
 -- ---- what is made
 
-module _ (z : Sizes) (slots : ℕ) (b c d : List ℤ) (h : ℕ) where
-  pub makes-length : (m : Result ℕ Fault) (t : Turn) → Makes z slots b h c m t → length c ≡ length b
-  makes-length m (refused r p) k = k.1
-  makes-length m (ended x y) k = absurd k
-  makes-length m (follow xs) k = k.2.same_length
+module _ (z : Sizes) (a b c : Stack) (same : a.slots ≡ b.slots) where
+  makes-length : (m : Result (Unit {0}) Fault) (t : Turn) → Makes z a b m t → length b.work.now ≡ length a.work.now
+  makes-length m (refused r p) w = w.1
+  makes-length m (ended x y) w = absurd w
+  makes-length m (follow xs) w = w.1.same_length
 
   -- a fault of the first thread is the turn's
-  pub fault-before : (m : Result ℕ Fault) (t : Turn) (p : ℕ) (q : R.Refusal) → Makes z slots b h c m t → length d ≡ length c
-      → Makes z slots b h d (Err (fault_at q p)) (before p (unread q) t)
+  fault-before : (m : Result (Unit {0}) Fault) (t : Turn) (p : ℕ) (q : R.Refusal) → Makes z a b m t → length c.work.now ≡ length b.work.now
+      → Makes z a c (Err (fault_at q p)) (before p (unread q) t)
   unfolding before
-  fault-before m t p q k l = (refl, l ∙ makes-length m t k)
+  fault-before m t p q w l = (refl, l ∙ makes-length m t w)
 
   -- else a fault of a later one is
-  pub kept-before : (f : Fault) (t : Turn) (p : ℕ) (xs : List S.State) → Makes z slots b h c (Err f) t → length d ≡ length c
-      → Makes z slots b h d (Err f) (before p (states xs) t)
+  kept-before : (f : Fault) (t : Turn) (p : ℕ) (xs : List S.State) → Makes z a b (Err f) t → length c.work.now ≡ length b.work.now
+      → Makes z a c (Err f) (before p (states xs) t)
   unfolding before
-  kept-before f (refused q n) p xs k l = (k.0, l ∙ k.1)
-  kept-before f (ended x y) p xs k l = absurd k
-  kept-before f (follow ys) p xs k l = let e = k.1 in absurd cc
+  kept-before f (refused q n) p xs w l = (w.0, l ∙ w.1)
+  kept-before f (ended x y) p xs w l = absurd w
+  kept-before f (follow ys) p xs w l = let e = w.0 in absurd cc
 
   -- else its states go on top of those of the later ones
-  pub pushed-before : (t : Turn) (p : ℕ) (xs : List S.State) (j k : ℕ) → Makes z slots b h c (Ok j) t → Pushed z slots c d j k xs
-      → Makes z slots b h d (Ok k) (before p (states xs) t)
+  pushed-before : (t : Turn) (p : ℕ) (xs : List S.State) → Makes z a b (Ok tt) t → Grows z b c xs → Makes z a c (Ok tt) (before p (states xs) t)
   unfolding before
-  pushed-before (refused q n) p xs j k y u = let e = y.0 in absurd cc
-  pushed-before (ended x y) p xs j k w u = absurd w
-  pushed-before (follow ys) p xs j k w u = let e : j ≡ w.0 = cc w.1 in
-      (k, refl, then-pushed w.2 (subst (λ (n : ℕ). Pushed z slots c d n k xs) e u))
+  pushed-before (refused q n) p xs w u = let e = w.0 in absurd cc
+  pushed-before (ended x y) p xs w u = absurd w
+  pushed-before (follow ys) p xs w u = (refl, then-pushed w.1 (rw (← same) at u))
 
--- the same by what the code makes of a thread's event
-pub over-makes : (z : Sizes) (slots : ℕ) (b c d : List ℤ) (h : ℕ) (m : Result ℕ Fault) (t : Turn) (p : ℕ) (r : Result ℕ Refusal)
-    (n : Next) → Makes z slots b h c m t
-    → Acts z slots c d (height_of m h) r n → Makes z slots b h d (over_of m r p) (before p n t)
-over-makes z slots b c d h m t p r (unread q) k a = rw a.0 (fault-before z slots b c d h m t p q k (ap length a.1))
-over-makes z slots b c d h (Err f) t p r (states xs) k a = rw a.1 (kept-before z slots b c d h f t p xs k a.2.same_length)
-over-makes z slots b c d h (Ok j) t p r (states xs) k a = rw a.1 (pushed-before z slots b c d h t p xs j a.0 k a.2)
+  -- the same by what the code makes of a thread's event
+  pub over-makes : (m : Result (Unit {0}) Fault) (t : Turn) (p : ℕ) (r : Result (Unit {0}) Refusal) (n : Next) → Makes z a b m t
+      → Leaves z b c r n → Makes z a c (over_of m r p) (before p n t)
+  over-makes m t p r (unread q) w l = rw l.0 (fault-before m t p q w (ap length l.1.0))
+  over-makes (Err f) t p r (states xs) w l = rw l.0 (kept-before f t p xs w l.1.same_length)
+  over-makes (Ok u) t p r (states xs) w l = rw l.0 (pushed-before t p xs w l.1)
 
 -- and of all of them
-module _ (z : Sizes) (slots : ℕ) (b c : List ℤ) (h : ℕ) where
-  pub turns-failed : (f : Fault) (t : Turn) → Makes z slots b h c (Err f) t → Turns z slots b h c (Err f) t
-  turns-failed f (refused r p) k = (cc k.0, k.1)
-  turns-failed f (ended x y) k = absurd k
-  turns-failed f (follow xs) k = let e = k.1 in absurd cc
+module _ (z : Sizes) (a b : Stack) where
+  pub turns-failed : (f : Fault) (t : Turn) → Makes z a b (Err f) t → Turns z a b (Err f) t
+  turns-failed f (refused r p) w = (cc w.0, w.1)
+  turns-failed f (ended x y) w = absurd w
+  turns-failed f (follow xs) w = let e = w.0 in absurd cc
 
-  pub turns-made : (m : ℕ) (t : Turn) → Makes z slots b h c (Ok m) t → Turns z slots b h c (Ok (Height m)) t
-  turns-made m (refused r p) k = let e = k.0 in absurd cc
-  turns-made m (ended x y) k = absurd k
-  turns-made m (follow xs) k = (k.0, cc k.1, k.2)
+  pub turns-made : (t : Turn) → Makes z a b (Ok tt) t → Turns z a b (Ok None) t
+  turns-made (refused r p) w = let e = w.0 in absurd cc
+  turns-made (ended x y) w = absurd w
+  turns-made (follow xs) w = (refl, w.1)

@@ -3,7 +3,6 @@ use Rattle.std.specs.Prelude.{ℕ, Option, Some, None, Result, Ok, Err}
 use Rattle.rules.specs.Search as S
 use Rattle.rules.specs.Search.{unseen, seen, fails, finds}
 use Rattle.refusal.specs.Shape.{rule_of}
-use Rattle.refusal.specs.declared.Refusal.{Refusal}
 use Rattle.refusal.specs.declared.Fault.{Fault}
 use Rattle.search.specs.declared.run.Window.{Window}
 use Rattle.search.specs.declared.run.Outcome.{Outcome}
@@ -18,7 +17,3 @@ end_in n (Err f) = fails (rule_of f.refusal) f.place n
 
 abbrev pub end_of : Outcome → S.End
 end_of o = end_in o.steps o.end
-
--- a refusal that speaks of no one place in the sheet
-abbrev pub unplaced : Refusal → Fault
-unplaced r = record { refusal = r; place = 0 }

@@ -7,6 +7,7 @@ use Rattle.rules.specs.Program.{is_halt}
 use Rattle.rules.specs.Search.{ThreadState, Live, greatest_low, greatest_high, turn_bound, waits}
 use Rattle.field.specs.declared.decoding.Action.{Action}
 use Rattle.field.specs.declared.decoding.Action.TheVariants.{Halt, Skip, Assign, Branch, Store, Load, Unlock, Lock}
+use Rattle.field.specs.declared.decoding.Statement.{Statement}
 use Rattle.field.specs.declared.ticks.Time.{Time}
 use Rattle.field.specs.Ticks.{tick}
 use Rattle.field.specs.Decoded.{halts}
@@ -15,7 +16,6 @@ use Rattle.state.specs.declared.Clock.{Clock}
 use Rattle.state.specs.Cells.{decode}
 use Rattle.state.specs.Access.{thread_at}
 use Rattle.state.specs.Shape.{owner_of}
-use Rattle.event.specs.declared.fetch.Fetched.{Fetched}
 use Rattle.search.specs.declared.taken.Taken.{Taken}
 use Rattle.search.specs.declared.survey.Survey.{Survey}
 use Rattle.search.specs.Taken.{program_of, rules_state, live_in}
@@ -71,10 +71,10 @@ add_live a due waits = record { waiting = waits && a.waiting; bound = Some (soon
 abbrev pub add_clock : Survey → Clock → Survey
 add_clock a x = record { waiting = a.waiting; bound = a.bound; low = tick (max x.low.0 a.low.0); high = tick (max x.high.0 a.high.0) }
 
-unfoldable pub add_thread : Survey → ℕ → Clock → Fetched → List ℕ → Survey
-add_thread a t x f os =
+unfoldable pub add_thread : Survey → ℕ → Clock → Statement → List ℕ → Survey
+add_thread a t x st os =
     let b = add_clock a x in
-    if halts f.action then b else add_live b (tick (x.high.0 + f.greatest.0)) (waits_at t f.action os)
+    if halts st.action then b else add_live b (tick (x.high.0 + st.greatest.0)) (waits_at t st.action os)
 
 -- ---- the earliest tick of a thread's event: none for one that halts
 

@@ -1,22 +1,23 @@
 // The loop over the stack.
-ghost use Rattle.std.specs.Prelude.{◌≡◌, [], ◌∷◌, length};
+ghost use Rattle.std.specs.Prelude.{◌≡◌, [], ◌∷◌, ◌-◌, ◌<◌, ◌≤◌, length};
 ghost use Rattle.rules.specs.Search as S;
 ghost use Rattle.rules.specs.Search.{unseen, fails};
 ghost use Rattle.refusal.specs.Shape.{rule_of};
 ghost use Rattle.state.specs.Shape.{sizes_of, state_of};
-ghost use Rattle.state.specs.Cells.{AllTimed};
+ghost use Rattle.state.specs.Cells.{AllTimed, decode, slot_of};
 ghost use Rattle.reader.specs.Facts.{program_in};
 ghost use Rattle.event.specs.Plan.{Ready};
-ghost use Rattle.event.specs.Push.{Room};
-ghost use Rattle.search.specs.Run.{window_of, end_of, unplaced};
+ghost use Rattle.event.specs.Stack.{SameStack};
+ghost use Rattle.search.specs.Run.{window_of, end_of};
 
 use crate::taken::Taken;
-use crate::turn::{Turned, turn};
+use crate::turn::turn;
 use event::plan::Plan;
+use event::stack::Stack;
 use field::Time;
 use reader::MOST_PLACES;
 use refusal::{Fault, Refusal};
-use state::{State, store, take_slot};
+use state::{NUMBERS_PER_STATE, State, store, take_slot};
 
 // The earliest and the latest tick at which a run may finish.
 #[derive(Clone, Copy)]
@@ -46,13 +47,6 @@ pub struct Outcome {
     pub end: Result<Option<Window>, Fault>,
 }
 
-// A refusal that speaks of no one place in the sheet.
-pub(crate) fn without_place(refusal: Refusal) -> Fault
-    ensures { result ≡ unplaced refusal }
-{
-    Fault { refusal, place: 0 }
-}
-
 pub(crate) fn refused(steps: u32, fault: Fault) -> Outcome
     ensures { end_of result ≡ fails (rule_of fault.refusal) fault.place steps }
 {
@@ -62,32 +56,41 @@ pub(crate) fn refused(steps: u32, fault: Fault) -> Outcome
     }
 }
 
-// The search from a first state on. Its loop is a `while`: it goes over a stack that grows and shrinks, and no count says when that is
-// empty.
+// The numbers of the state that lies on top. A function of its own: where the loop lends the buffer out of its `&mut Stack`, no more than
+// the length is known of it afterwards.
+fn top(stack: &Stack) -> [i32; NUMBERS_PER_STATE]
+    requires { (0 < stack.now.height) × (stack.now.height ≤ stack.now.slots) }
+    ensures { (decode result ≡ decode (slot_of stack.now.work.now (stack.now.height - 1))) × AllTimed (decode result) }
+{
+    take_slot(stack.work, stack.height - 1)
+}
+
+// The search from a first state on, which goes to the bottom of the stack. Its loop is a `while`: it goes over a stack that grows and
+// shrinks, and no count says when that is empty.
 pub(crate) fn search(
     sheet: &[u8],
     places: &[u16; MOST_PLACES],
     plan: Plan,
     first: State,
     budget: u32,
-    work: &mut [i32],
-    slots: usize,
+    stack: &mut Stack,
 ) -> Outcome
-    requires { Ready sheet.now plan places.now × (AllTimed first × Room slots work.old) }
+    requires { Ready sheet.now plan places.now × AllTimed first }
+    ensures same { SameStack stack.old stack.new }
     ensures result_value { end_of result
-        ≡ S.search budget (program_in sheet.now) slots (state_of (sizes_of (program_in sheet.now)) first ∷ []) unseen 0 }
-    ensures work_len_unchanged { length work.new ≡ length work.old }
+        ≡ S.search budget (program_in sheet.now) stack.old.slots (state_of (sizes_of (program_in sheet.now)) first ∷ []) unseen 0 }
+    ensures work_len_unchanged { length stack.new.work.now ≡ length stack.old.work.now }
 {
-    store(work, 0, first);
-    let mut height: usize = 1;
+    store(stack.work, 0, first);
+    stack.height = 1;
     let mut steps: u32 = 0;
     let mut found: Option<Window> = None;
-    while 0 < height {
+    while 0 < stack.height {
         if steps == budget {
-            return refused(steps, without_place(Refusal::OutOfSteps));
+            return refused(steps, Fault::from(Refusal::OutOfSteps));
         }
-        height -= 1;
-        let cells = take_slot(work, height);
+        let cells = top(stack);
+        stack.height -= 1;
         let taken = Taken {
             sheet,
             places,
@@ -95,13 +98,13 @@ pub(crate) fn search(
             cells: &cells,
         };
         steps += 1;
-        match turn(&taken, work, height, slots) {
+        match turn(&taken, stack) {
             Err(fault) => return refused(steps, fault),
-            Ok(Turned::Ended(w)) => found = widened(found, w),
-            Ok(Turned::Height(h)) if slots < h => {
-                return refused(steps, without_place(Refusal::OutOfRoom));
+            Ok(Some(w)) => found = widened(found, w),
+            Ok(None) if stack.slots < stack.height => {
+                return refused(steps, Fault::from(Refusal::OutOfRoom));
             }
-            Ok(Turned::Height(h)) => height = h,
+            Ok(None) => {}
         }
     }
     let end = Ok(found);

@@ -7,13 +7,14 @@ ghost use Rattle.search.specs.Taken.{IsReady};
 ghost use Rattle.search.specs.Survey.{SurveysFrom, LockThere, waits_at, add_live, add_clock, add_thread, earliest_of, EarliestFrom};
 
 use crate::taken::Taken;
-use event::fetch::Fetched;
 use event::locking::may_take;
+use field::decoding::Statement;
 use field::{Action, Time, is_halt};
 use reader::MOST_THREADS;
 use state::{Clock, NUMBERS_PER_STATE, clock_of, owner_of};
 
-// Whether every live thread waits for a lock; the turn's bound, where some thread is live; the greatest clock low and high.
+// Whether every live thread waits for a lock; the turn's bound, where some thread is live; the greatest clock low and high. `waiting` is
+// no flag for `bound`: it is an answer of its own, and true where no thread is live.
 #[derive(Clone, Copy)]
 pub(crate) struct Survey {
     pub waiting: bool,
@@ -22,7 +23,8 @@ pub(crate) struct Survey {
     pub high: Time,
 }
 
-// The survey of a state's threads, and of each thread the earliest tick of its event; one that halts has none.
+// The survey of a state's threads, and of each thread the earliest tick of its event; one that halts has none. The ticks are an array by
+// the thread's number, as the entries of an index and the threads of a state are.
 #[derive(Clone, Copy)]
 pub(crate) struct Threads {
     pub survey: Survey,
@@ -73,29 +75,29 @@ impl Survey {
         self,
         t: usize,
         clock: Clock,
-        f: Fetched,
+        x: Statement,
         cells: &[i32; NUMBERS_PER_STATE],
     ) -> Survey
-        requires { (t < most_threads) × ((clock.high.0 < half32) × ((f.greatest.0 < 65536) × LockThere f.action)) }
-        ensures { result ≡ add_thread self t clock f (decode cells.now).owners }
+        requires { (t < most_threads) × ((clock.high.0 < half32) × ((x.greatest.0 < 65536) × LockThere x.action)) }
+        ensures { result ≡ add_thread self t clock x (decode cells.now).owners }
     {
         let seen = self.with_clock(clock);
-        if is_halt(f.action) {
+        if is_halt(x.action) {
             return seen;
         }
-        let due = tick_after(clock.high, f.greatest);
-        seen.with_live(due, waits(t, f.action, cells))
+        let due = tick_after(clock.high, x.greatest);
+        seen.with_live(due, waits(t, x.action, cells))
     }
 }
 
-fn earliest_tick(clock: Clock, f: Fetched) -> Option<Time>
-    requires { (clock.low.0 < half32) × (f.least.0 < 65536) }
-    ensures { result ≡ earliest_of (halts f.action) clock.low.0 f.least.0 }
+fn earliest_tick(clock: Clock, x: Statement) -> Option<Time>
+    requires { (clock.low.0 < half32) × (x.least.0 < 65536) }
+    ensures { result ≡ earliest_of (halts x.action) clock.low.0 x.least.0 }
 {
-    if is_halt(f.action) {
+    if is_halt(x.action) {
         return None;
     }
-    Some(tick_after(clock.low, f.least))
+    Some(tick_after(clock.low, x.least))
 }
 
 pub(crate) fn survey_threads(taken: &Taken) -> Threads
@@ -110,11 +112,12 @@ pub(crate) fn survey_threads(taken: &Taken) -> Threads
         high: Time(0),
     };
     let mut earliest: [Option<Time>; MOST_THREADS] = [None; MOST_THREADS];
+    // By t, which is the thread's number and not only an index: its statement and its clock are found by it.
     for t in (0..taken.plan.threads).rev() {
         let f = taken.fetch(t);
         let clock = clock_of(taken.cells, t);
-        survey = survey.with_thread(t, clock, f, taken.cells);
-        earliest[t] = earliest_tick(clock, f);
+        survey = survey.with_thread(t, clock, f.statement, taken.cells);
+        earliest[t] = earliest_tick(clock, f.statement);
     }
     Threads { survey, earliest }
 }

@@ -10,6 +10,8 @@ use event::plan::Plan;
 use reader::MOST_PLACES;
 use state::{NUMBERS_PER_STATE, at_of};
 
+// That these are one sheet's is a `requires` (IsReady) and no ghost field: a ghost field's fact has to be shown to have one proof at most,
+// and no such proof is there of all that is known of a sheet that reads.
 #[derive(Clone, Copy)]
 pub(crate) struct Taken<'a> {
     pub sheet: &'a [u8],

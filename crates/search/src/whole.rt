@@ -6,12 +6,13 @@ ghost use Rattle.rules.specs.Search.{search_from};
 ghost use Rattle.rules.specs.Demands.{AllZeros, Unchanged};
 ghost use Rattle.reader.specs.Index.{index_of};
 ghost use Rattle.reader.specs.Facts.{program_in};
-ghost use Rattle.event.specs.Push.{Room};
+ghost use Rattle.event.specs.Stack.{SameStack};
 ghost use Rattle.search.specs.Run.{end_of};
 ghost use Rattle.search.specs.Whole.{end_with, search_of, searched_of};
 
-use crate::run::{Outcome, refused, search, without_place};
+use crate::run::{Outcome, refused, search};
 use event::plan::Plan;
+use event::stack::Stack;
 use field::Time;
 use reader::{Index, read_sheet};
 use refusal::{Fault, Refusal};
@@ -31,19 +32,17 @@ pub struct Searched {
     pub outcome: Outcome,
 }
 
-// The search of a sheet that reads, by its index, on a stack of so many slots.
-fn search_index(sheet: &[u8], index: Index, work: &mut [i32], slots: usize) -> Outcome
-    requires { (index_of (read_sheet sheet.now) ≡ Ok index) × Room slots work.old }
-    ensures result_value { end_of result ≡ search_from (program_in sheet.now) slots }
-    ensures work_len_unchanged { length work.new ≡ length work.old }
+// The search of a sheet that reads, by its index. It begins the stack anew, whatever that held.
+// That the index is the sheet's is a clause and no ghost field of the two: a struct of both would be taken apart at once.
+fn search_index(sheet: &[u8], index: Index, stack: &mut Stack) -> Outcome
+    requires { index_of (read_sheet sheet.now) ≡ Ok index }
+    ensures same { SameStack stack.old stack.new }
+    ensures result_value { end_of result ≡ search_from (program_in sheet.now) stack.old.slots }
+    ensures work_len_unchanged { length stack.new.work.now ≡ length stack.old.work.now }
 {
     let first = start(sheet, index);
-    let plan = Plan {
-        threads: index.threads,
-        limit: index.limit,
-        entries: index.entries,
-    };
-    search(sheet, &index.places, plan, first, index.budget, work, slots)
+    let plan = Plan::from(&index);
+    search(sheet, &index.places, plan, first, index.budget, stack)
 }
 
 // The same on the slots that the buffer has; where it has none, there is no room for the starting state.
@@ -55,9 +54,14 @@ fn search_slots(sheet: &[u8], index: Index, work: &mut [i32]) -> Outcome
 {
     let slots = work.len() / NUMBERS_PER_STATE;
     if slots == 0 {
-        return refused(0, without_place(Refusal::OutOfRoom));
+        return refused(0, Fault::from(Refusal::OutOfRoom));
     }
-    search_index(sheet, index, work, slots)
+    let mut stack = Stack {
+        work,
+        height: 0,
+        slots,
+    };
+    search_index(sheet, index, &mut stack)
 }
 
 // Reads a sheet and searches it; the buffer is left as the search leaves it.

@@ -1,5 +1,5 @@
 -- The code's data as the rule's, and what it is for a slice to be a part of one that was lent.
-use Rattle.std.specs.Prelude.{◌≡◌, List, [], ◌∷◌, ◌++◌, ℕ, ◌+◌, ◌≤◌, length, Option, Some, None, Result, Ok, Err}
+use Rattle.std.specs.Prelude.{◌≡◌, List, [], ◌∷◌, ◌++◌, ℕ, ◌+◌, ◌≤◌, eqb, length, if◌then◌else◌, Option, Some, None, Result, Ok, Err}
 use Rattle.std.specs.Borrow.{Bor}
 use Rattle.rules.specs.Base.{at_front}
 use Rattle.rules.specs.Format.{Bytes, Got, bad, got}
@@ -8,7 +8,7 @@ use Rattle.refusal.specs.Shape.{rule_of, fault_at}
 use Rattle.shelf.specs.Pairs as P
 use Rattle.shelf.specs.Pairs.{hit, miss, stop}
 use Rattle.shelf.specs.Lookup as L
-use Rattle.shelf.specs.Lookup.{Part, Answer, customers, ours, file_number, file_of, bytes_of, found, refused}
+use Rattle.shelf.specs.Lookup.{Part, Answer, customers, ours, file_number, file_of, bytes_of, empty_start, found, refused}
 use Rattle.shelf.specs.declared.File.{File}
 use Rattle.shelf.specs.declared.File.TheVariants.{Customers, Ours}
 use Rattle.shelf.specs.declared.Found.{Found}
@@ -50,6 +50,13 @@ answer_of (Err y) = refused (rule_file y.file) (rule_of y.fault.refusal) y.fault
 
 abbrev pub numbers_of : Answer → Numbers
 numbers_of a = record { refusal = a.refusal; file = file_number a.file; place = a.place; size = a.part.size }
+
+-- the file of a number, and the part that an answer's numbers name
+abbrev pub file_by : ℕ → L.File
+file_by n = if eqb n 0 then customers else ours
+
+abbrev pub part_of : Numbers → Part
+part_of x = if eqb x.refusal 0 then record { file = file_by x.file; from = x.place; size = x.size } else empty_start
 
 -- ---- a part, as a slice of a slice that was lent
 

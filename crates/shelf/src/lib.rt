@@ -1,4 +1,5 @@
 // A sheet is looked for by its name in the customer's file, else in ours (02, ticket 14).
+// `as u64` of a usize: std has no `From` for it, and `try_from` would give an `Err` that cannot come.
 #![tactic(auto)]
 
 mod pairs; // one file

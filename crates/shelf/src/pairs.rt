@@ -52,6 +52,7 @@ pub(crate) fn look_in(f: &[u8], name: u8) -> Result<Option<Sheet>, Fault>
     ensures { result ≡ look_of (look_in name f.now) }
 {
     let mut at = 0;
+    // a `while`: where the next pair stands is read from this one
     while at < f.len() {
         let pair = pair_at(f, at)?;
         let sheet = pair.sheet;

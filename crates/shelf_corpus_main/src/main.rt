@@ -4,20 +4,22 @@
 //
 // Some entries are planted, so that the comparison itself is tried: one of their numbers is wrong, or the program takes something
 // else for the part. It prints how many there are of both, and how many of these it noticed.
+//
+// Numbers are made wider by `as`: `usize` has no `From<u32>`, `u64` none of a `usize`, and a `try_from` would give an error that cannot
+// come.
 #![tactic(auto)]
 
 ghost use Rattle.std.specs.Prelude.{◌≤◌, length};
 
-use corpus::{counted, four, over_entries, put, read_front};
-use files::read_full;
+use corpus::{Count, bytes_at, front, over_entries, read_front};
 use shelf::lookup;
-use std::io::Read;
+use std::io::{Print, Read};
 
 // Bytes of a file at most.
 const LONGEST: usize = 200000;
 
 // What is planted in an entry: one of the four numbers is wrong; another byte is taken for the part's first or its last, or the part is
-// taken one byte too short.
+// taken one byte too short. The error is the number itself, where it stands for nothing.
 #[derive(Clone, Copy, PartialEq, Eq)]
 enum Planted {
     Nothing,
@@ -25,23 +27,25 @@ enum Planted {
     First,
     Last,
     Short,
-    Unknown,
 }
 
-impl From<u8> for Planted {
-    fn from(code: u8) -> Planted {
+impl TryFrom<u8> for Planted {
+    type Error = u8;
+
+    fn try_from(code: u8) -> Result<Planted, u8> {
         match code {
-            0 => Planted::Nothing,
-            1 => Planted::Number,
-            2 => Planted::First,
-            3 => Planted::Last,
-            4 => Planted::Short,
-            _ => Planted::Unknown,
+            0 => Ok(Planted::Nothing),
+            1 => Ok(Planted::Number),
+            2 => Ok(Planted::First),
+            3 => Ok(Planted::Last),
+            4 => Ok(Planted::Short),
+            _ => Err(code),
         }
     }
 }
 
-// An entry but for the bytes of its files, of which these are the lengths.
+// An entry but for the bytes of its files, of which these are the lengths. Its refusal and its file are numbers as the corpus states them,
+// and as C gets them.
 #[derive(Clone, Copy)]
 struct Entry {
     name: u8,
@@ -51,7 +55,22 @@ struct Entry {
     file: u64,
     place: usize,
     size: usize,
-    planted: Planted,
+    planted: Option<Planted>,
+}
+
+impl From<[u8; 20]> for Entry {
+    fn from(b: [u8; 20]) -> Entry {
+        Entry {
+            name: b[0],
+            customer: u32::from_be_bytes(bytes_at(&b, 1)) as usize,
+            house: u32::from_be_bytes(bytes_at(&b, 5)) as usize,
+            refusal: u64::from(b[9]),
+            file: u64::from(b[10]),
+            place: u32::from_be_bytes(bytes_at(&b, 11)) as usize,
+            size: u32::from_be_bytes(bytes_at(&b, 15)) as usize,
+            planted: Planted::try_from(b[19]).ok(),
+        }
+    }
 }
 
 // Whether the four numbers are the stated ones, and whether the part is.
@@ -61,28 +80,31 @@ struct Verdict {
     part: bool,
 }
 
-// How many entries are right, and how many of these differ; how many have a wrong number, or a wrong part, and how many of these
-// were noticed.
+// The entries that are right, of which none is to differ, and those that have a wrong number or a wrong part.
 #[derive(Clone, Copy, Default)]
 struct Tally {
-    compared: u64,
-    differ: u64,
-    numbers: u64,
-    numbers_noticed: u64,
-    parts: u64,
-    parts_noticed: u64,
+    lookups: Count,
+    numbers: Count,
+    parts: Count,
 }
 
-fn entry_of(b: &[u8; 20]) -> Entry {
-    Entry {
-        name: b[0],
-        customer: four(b[1], b[2], b[3], b[4]) as usize,
-        house: four(b[5], b[6], b[7], b[8]) as usize,
-        refusal: u64::from(b[9]),
-        file: u64::from(b[10]),
-        place: four(b[11], b[12], b[13], b[14]) as usize,
-        size: four(b[15], b[16], b[17], b[18]) as usize,
-        planted: Planted::from(b[19]),
+impl Tally {
+    // One entry more. What is planted by a number that is not known counts as a wrong part.
+    fn with(self, planted: Option<Planted>, v: Verdict) -> Tally {
+        match planted {
+            Some(Planted::Nothing) => Tally {
+                lookups: self.lookups.with(!(v.numbers && v.part)),
+                ..self
+            },
+            Some(Planted::Number) => Tally {
+                numbers: self.numbers.with(!v.numbers),
+                ..self
+            },
+            Some(Planted::First | Planted::Last | Planted::Short) | None => Tally {
+                parts: self.parts.with(v.numbers && !v.part),
+                ..self
+            },
+        }
     }
 }
 
@@ -91,22 +113,22 @@ fn same_numbers(answer: [u64; 3], size: usize, e: Entry) -> bool {
 }
 
 // How many bytes of the part are taken for it.
-fn taken_size(size: usize, planted: Planted) -> usize
+fn taken_size(size: usize, planted: Option<Planted>) -> usize
     ensures { result ≤ size }
 {
-    if planted == Planted::Short {
+    if planted == Some(Planted::Short) {
         size.saturating_sub(1)
     } else {
         size
     }
 }
 
-// Where another byte is taken for the part's: its size if nowhere.
-fn changed_at(size: usize, planted: Planted) -> usize {
-    match planted {
-        Planted::First => 0,
-        Planted::Last => size.saturating_sub(1),
-        _ => size,
+// Where another byte is taken for the part's, if anywhere.
+fn changed_at(size: usize, planted: Option<Planted>) -> Option<usize> {
+    match planted? {
+        Planted::First => Some(0),
+        Planted::Last => size.checked_sub(1),
+        _ => None,
     }
 }
 
@@ -115,24 +137,24 @@ fn taken_byte(b: u8, changed: bool) -> u8 {
     if changed { 255 - b } else { b }
 }
 
-fn same_bytes(part: &[u8], stated: &[u8], changed: usize) -> bool {
+fn same_bytes(part: &[u8], stated: &[u8], changed: Option<usize>) -> bool {
     part.len() == stated.len()
         && part
             .iter()
             .zip(stated)
             .enumerate()
-            .all(|(i, (b, s))| taken_byte(*b, i == changed) == *s)
+            .all(|(i, (b, s))| taken_byte(*b, changed == Some(i)) == *s)
 }
 
 // Whether the part has the stated size and the file's bytes from the stated place on. What is stated may reach beyond the file.
 fn same_part(part: &[u8], file: &[u8], e: Entry) -> bool {
-    if taken_size(part.len(), e.planted) != e.size {
-        return false;
-    }
-    let Some(stated) = file.get(e.place..).and_then(|rest| rest.get(..e.size)) else {
-        return false;
-    };
-    same_bytes(&part[..e.size], stated, changed_at(e.size, e.planted))
+    taken_size(part.len(), e.planted) == e.size
+        && file
+            .get(e.place..)
+            .and_then(|rest| rest.get(..e.size))
+            .is_some_and(|stated| {
+                same_bytes(&part[..e.size], stated, changed_at(e.size, e.planted))
+            })
 }
 
 // The files are the fronts of the buffers. File 0 is the customer's.
@@ -152,20 +174,6 @@ fn compare(e: Entry, customer: &[u8], house: &[u8]) -> Verdict
     }
 }
 
-fn added(t: Tally, v: Verdict, planted: Planted) -> Tally {
-    let right = planted == Planted::Nothing;
-    let number = planted == Planted::Number;
-    let part = !right && !number;
-    Tally {
-        compared: counted(t.compared, right),
-        differ: counted(t.differ, right && !(v.numbers && v.part)),
-        numbers: counted(t.numbers, number),
-        numbers_noticed: counted(t.numbers_noticed, number && !v.numbers),
-        parts: counted(t.parts, part),
-        parts_noticed: counted(t.parts_noticed, part && v.numbers && !v.part),
-    }
-}
-
 // The count with one entry more; none where the corpus does not hold it whole.
 fn compare_next<R: Read>(
     from: &mut R,
@@ -173,30 +181,22 @@ fn compare_next<R: Read>(
     customer: &mut [u8],
     house: &mut [u8],
 ) -> Option<Tally> {
-    let mut front = [0u8; 20];
-    if read_full(from, &mut front) < 20 {
-        return None;
-    }
-    let e = entry_of(&front);
-    if !read_front(from, customer, e.customer) || !read_front(from, house, e.house) {
-        return None;
-    }
-    Some(added(t, compare(e, customer, house), e.planted))
+    let e = Entry::from(front(from)?);
+    read_front(from, customer, e.customer)?;
+    read_front(from, house, e.house)?;
+    Some(t.with(e.planted, compare(e, customer, house)))
 }
 
 fn main(rt: HostRuntime) {
     let mut customer = [0u8; LONGEST];
     let mut house = [0u8; LONGEST];
-    let counted = over_entries(&mut rt.stdin(), Tally::default(), |from, t| {
+    let Some(t) = over_entries(&mut rt.stdin(), Tally::default(), |from, t| {
         compare_next(from, t, &mut customer, &mut house)
-    });
-    let Some(t) = counted else {
+    }) else {
         return;
     };
-    put(rt, t.compared, b" lookups compared, ");
-    put(rt, t.differ, b" differ; noticed of what is planted: ");
-    put(rt, t.numbers_noticed, b" of ");
-    put(rt, t.numbers, b" wrong numbers, ");
-    put(rt, t.parts_noticed, b" of ");
-    put(rt, t.parts, b" wrong parts\n");
+    let _ = println!(rt;
+        "{} lookups compared, {} differ; noticed of what is planted: {} wrong numbers, {} wrong parts",
+        t.lookups.all, t.lookups.noticed, t.numbers, t.parts
+    );
 }

@@ -1,14 +1,16 @@
 // Looks for a sheet by its name: NAME HIS OURS, a number from 0 to 255 and two files. The sheet's bytes go to standard output. Where
 // the lookup is refused, nothing goes there, and the line `number file place` (file 0 the customer's, 1 ours) goes to standard error.
 // What goes to both, of the bytes that were read, is proved to be what the rule gives.
+//
+// A number becomes a `usize` by `as`: std has no `From` for it, and a `try_from` would give an error that cannot come.
 #![tactic(auto)]
 
-ghost use Rattle.std.specs.Prelude.{◌≡◌, ◌+◌, ◌≤◌, length};
+ghost use Rattle.std.specs.Prelude.{◌≡◌, true, ◌+◌, ◌≤◌, length};
 ghost use Rattle.writing.specs.Out.{Writes};
 ghost use Rattle.shelf_main.specs.Text.{longest_file, longest_line, name_in, line_unless_found, written, said};
 
 use digits::number_in;
-use files::{MOST_OF_WORD, opened, read_full, reads_on, tell, tell_bytes, word, word_count};
+use files::{MOST_OF_WORD, opened, put_out, read_array, reads_on, tell_bytes, word, word_count};
 use shelf::lookup;
 use std::fs::File;
 use std::io::Print;
@@ -37,7 +39,8 @@ fn name_given(rt: HostRuntime) -> Option<u8> {
 
 // ---- the answer
 
-// The line of a refusal at the buffer's front; nothing where the sheet is found.
+// The line of a refusal at the buffer's front; nothing where the sheet is found. The numbers are the answer's, as the call for C gives
+// them.
 #[tactic(auto, unfolding(crate::proofs::Laws::said_line))]
 fn put_line(out: &mut [u8], refusal: u64, file: u64, place: u64) -> usize
     requires { longest_line ≤ length out.old }
@@ -67,23 +70,17 @@ fn answer<'a>(name: u8, customer: &'a [u8], house: &'a [u8], out: &mut [u8]) -> 
 fn put_answer(rt: HostRuntime, name: u8, customer: &[u8], house: &[u8]) {
     let mut out = [0u8; LONGEST_LINE];
     let (sheet, end) = answer(name, customer, house, &mut out);
-    if let Err(e) = rt.write_all(sheet) {
-        tell(rt, b"standard output", e);
-    }
+    let _ = put_out(rt, sheet);
     let _ = rt.stderr().write_all(&out[..end]);
 }
 
 // ---- the files
 
-// Reads a file as far as there is room, and gives how many bytes it read.
-fn read_file(from: &mut File, file: &mut [u8; MOST_BYTES]) -> usize
-    ensures { (length file.new ≡ longest_file + 1) × (result ≤ longest_file + 1) }
-{
-    read_full(from, file)
-}
-
 // Whether n bytes are the whole file: it is not longer than is looked into, and the reading did not end in an error.
-fn is_whole(rt: HostRuntime, from: &mut File, n: usize, called: &[u8]) -> bool {
+fn is_whole(rt: HostRuntime, from: &mut File, n: usize, called: &[u8]) -> bool
+    requires { n ≤ longest_file + 1 }
+    ensures { result ≡ true → n ≤ longest_file }
+{
     if n == MOST_BYTES {
         tell_bytes(rt, called, b"more than 1,000,000 bytes are not looked into");
         return false;
@@ -93,12 +90,12 @@ fn is_whole(rt: HostRuntime, from: &mut File, n: usize, called: &[u8]) -> bool {
 
 fn look(rt: HostRuntime, name: u8, one: &mut File, two: &mut File) {
     let mut customer = [0u8; MOST_BYTES];
-    let n = read_file(one, &mut customer);
+    let n = read_array(one, &mut customer);
     if !is_whole(rt, one, n, b"HIS") {
         return;
     }
     let mut house = [0u8; MOST_BYTES];
-    let m = read_file(two, &mut house);
+    let m = read_array(two, &mut house);
     if !is_whole(rt, two, m, b"OURS") {
         return;
     }

@@ -8,6 +8,7 @@ ghost use Rattle.state.specs.Cells.{spans_cells, owners_cells, thread_cells, enc
 use crate::{Clock, State, Thread};
 use interval::Span;
 
+// With no heap a slot is of this size, however much of it a sheet uses.
 pub const NUMBERS_PER_STATE: usize = 100;
 
 pub(crate) const NUMBERS_PER_THREAD: usize = 19;
@@ -31,8 +32,8 @@ pub(crate) fn put_stand(cells: &mut [i32], p: usize, at: u8, clock: Clock)
     ensures { cells.new ≡ set (set (set cells.old p (pos at)) (p + 1) (pos clock.low.0)) (p + 2) (pos clock.high.0) }
 {
     cells[p] = i32::from(at);
-    cells[p + 1] = clock.low.0 as i32;
-    cells[p + 2] = clock.high.0 as i32;
+    cells[p + 1] = clock.low.0.cast_signed();
+    cells[p + 2] = clock.high.0.cast_signed();
 }
 
 pub(crate) fn put_span(cells: &mut [i32], at: usize, v: Span)
@@ -43,6 +44,8 @@ pub(crate) fn put_span(cells: &mut [i32], at: usize, v: Span)
     cells[at + 1] = v.high.0;
 }
 
+// This loop and the next two go by index: tried over `iter_mut` or `chunks_exact_mut` under `zip`, `returns` stays open, since of what is
+// written through such an iterator's items a proof knows no more than the length.
 pub(crate) fn put_spans(cells: &mut [i32], v: [Span; 8])
     requires { length cells.old ≡ 16 }
     ensures { cells.new ≡ spans_cells v }
@@ -92,7 +95,8 @@ pub fn store(work: &mut [i32], slot: usize, s: State)
 
 // ---- the buffer as it is left behind
 
-// Every number becomes 0, those past the last whole slot too.
+// Every number becomes 0, those past the last whole slot too: a name for the rule, whose edits buffer_left_as_it_was and last_cell_left
+// stand on this one line.
 pub fn clear(work: &mut [i32])
     ensures { work.new ≡ replicate (length work.old) (pos 0) }
 {

@@ -1,5 +1,6 @@
 // A state of the search, by value: where each thread stands, its clock and its registers, the variables, and who owns each
-// lock. There is always room for 4 threads, 8 registers each, 8 variables and 8 locks; the sheet says how many of them count.
+// lock. There is always room for 4 threads, 8 registers each, 8 variables and 8 locks, since there is no heap; the sheet says how many of
+// them count.
 #![tactic(auto)]
 
 use field::Time;
@@ -15,7 +16,8 @@ pub use moves::{Move, put_moved, put_owner, put_register, put_registers, put_var
 pub use parts::{at_of, clock_of, owner_of, register_of, registers_of, take_slot, variable_of};
 pub use starting::start;
 
-// The earliest and the latest tick that a thread's clock may show.
+// The earliest and the latest tick that a thread's clock may show: a type of its own, so that it never stands for a window that was found
+// or that a label allows.
 #[derive(Clone, Copy)]
 pub struct Clock {
     pub low: Time,

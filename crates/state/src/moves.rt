@@ -1,5 +1,6 @@
 // The state that an event makes, written straight into its slot: the numbers of the state before it are copied, then those that
-// the event changes are replaced.
+// the event changes are replaced. The four functions behind `put_moved` are that and one more write each: five promises, one for each
+// kind of event.
 ghost use Rattle.std.specs.Prelude.{◌≡◌, ◌<◌, length, set};
 ghost use Rattle.rules.specs.Constants.{numbers_per_state, most_registers, most_variables, most_locks};
 ghost use Rattle.state.specs.Access.{thread_at, with_var, with_owner};
@@ -13,7 +14,8 @@ use crate::cells::{
 };
 use interval::Span;
 
-// A thread comes to statement `at`, with its clock there.
+// A thread comes to statement `at`, with its clock there. What MoveFits says of a move is a clause and no ghost field: which move an event
+// makes is told by an equation of whole moves, and that would have to carry the proofs.
 #[derive(Clone, Copy)]
 pub struct Move {
     pub thread: usize,

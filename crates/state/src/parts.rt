@@ -25,13 +25,14 @@ pub fn take_slot(work: &[i32], slot: usize) -> [i32; NUMBERS_PER_STATE]
 fn cell_byte(x: i32) -> u8
     ensures { result ≡ byte_of x }
 {
+    // By `as`: std has no `From` for this, and `try_from` would give an `Err` that cannot come.
     x.clamp(0, 255) as u8
 }
 
 fn cell_time(x: i32) -> Time
     ensures { (result.0 ≡ time_of x) × (result.0 < half32) }
 {
-    Time(x.max(0) as u32)
+    Time(x.max(0).cast_unsigned())
 }
 
 // Where thread t stands.

@@ -38,6 +38,7 @@ fn ranges_at(s: &[u8], p: usize, n: usize) -> [Span; 8]
         high: Val(0),
     };
     let mut spans = [zero; 8];
+    // By index: tried over `iter_mut().enumerate().take(n)`, `returns` stays open, as in `put_spans`.
     for i in 0..n {
         spans[i] = range_at(s, p + RANGE_SIZE * i);
     }
@@ -61,6 +62,7 @@ fn start_thread(s: &[u8], entry: ThreadEntry) -> Thread
 }
 
 // The starting state of a sheet that reads, by its index.
+// That the index is the sheet's is a clause and no ghost field of the two: a struct of both would be taken apart at once.
 pub fn start(sheet: &[u8], index: Index) -> State
     requires { index_of (read_sheet sheet.now) ≡ Ok index }
     ensures { StartsAs sheet.now result }

@@ -7,31 +7,14 @@
 
 mod entry;
 
-use crate::entry::{FRONT, Planted, Verdict, compare, front_of};
-use corpus::{counted, over_entries, put, read_front};
-use files::read_full;
-use std::io::Read;
+use crate::entry::{Front, Verdict, compare};
+use corpus::{Count, Planted, front, over_entries, read_front};
+use std::io::{Print, Read};
 
 // Bytes of a text at most, and of what is lent.
 const TEXT: usize = 70000;
 
 const ROOM: usize = 20000;
-
-// How many entries there are of a kind, and how many of these differ where they are to.
-#[derive(Clone, Copy, Default)]
-struct Count {
-    all: u64,
-    noticed: u64,
-}
-
-impl Count {
-    fn with(self, noticed: bool) -> Count {
-        Count {
-            all: counted(self.all, true),
-            noticed: counted(self.noticed, noticed),
-        }
-    }
-}
 
 // The entries that are right, of which none is to differ, and those that have a wrong number or a wrong sheet.
 #[derive(Clone, Copy, Default)]
@@ -43,21 +26,21 @@ struct Tally {
 
 impl Tally {
     // One entry more. Of two facts the one that is planted does not hold, the other does.
-    fn with(self, planted: Planted, v: Verdict) -> Tally {
+    fn with(self, planted: Option<Planted>, v: Verdict) -> Tally {
         match planted {
-            Planted::Nothing => Tally {
+            Some(Planted::Nothing) => Tally {
                 texts: self.texts.with(!v.numbers || !v.sheet),
                 ..self
             },
-            Planted::WrongNumber => Tally {
+            Some(Planted::WrongNumber) => Tally {
                 numbers: self.numbers.with(!v.numbers && v.sheet),
                 ..self
             },
-            Planted::WrongSheet => Tally {
+            Some(Planted::WrongSheet) => Tally {
                 sheets: self.sheets.with(!v.sheet && v.numbers),
                 ..self
             },
-            Planted::Unknown => self,
+            None => self,
         }
     }
 }
@@ -70,18 +53,11 @@ fn compare_next<R: Read>(
     stated: &mut [u8],
     sheet: &mut [u8],
 ) -> Option<Tally> {
-    let mut front = [0u8; FRONT];
-    if read_full(from, &mut front) < FRONT {
-        return None;
-    }
-    let f = front_of(&front);
-    if !read_front(from, text, f.text) || !read_front(from, stated, f.room) {
-        return None;
-    }
-    if sheet.len() < f.room {
-        return None;
-    }
-    let v = compare(f, &text[..f.text], &stated[..f.room], &mut sheet[..f.room]);
+    let f = Front::from(front(from)?);
+    read_front(from, text, f.text)?;
+    read_front(from, stated, f.room)?;
+    let lent = sheet.get_mut(..f.room)?;
+    let v = compare(f, &text[..f.text], &stated[..f.room], lent);
     Some(t.with(f.planted, v))
 }
 
@@ -94,14 +70,8 @@ fn main(rt: HostRuntime) {
     }) else {
         return;
     };
-    put(rt, t.texts.all, b" texts compared, ");
-    put(
-        rt,
-        t.texts.noticed,
-        b" differ; noticed of what is planted: ",
+    let _ = println!(rt;
+        "{} texts compared, {} differ; noticed of what is planted: {} wrong numbers, {} wrong sheets",
+        t.texts.all, t.texts.noticed, t.numbers, t.sheets
     );
-    put(rt, t.numbers.noticed, b" of ");
-    put(rt, t.numbers.all, b" wrong numbers, ");
-    put(rt, t.sheets.noticed, b" of ");
-    put(rt, t.sheets.all, b" wrong sheets\n");
 }

@@ -8,7 +8,7 @@ ghost use Rattle.writing.specs.Out.{Writes, longest_refusal};
 ghost use Rattle.text_main.specs.Told as Told;
 
 use convert::convert_text;
-use files::{read_full, tell};
+use files::{Ends, put_ends, read_array};
 use std::io::Print;
 use writing::{LONGEST_REFUSAL, put_refusal};
 
@@ -19,13 +19,6 @@ const READ_TEXT: usize = MOST_TEXT + 1;
 
 // What is lent: the longest sheet.
 const LENT_BYTES: usize = 16384;
-
-// How many bytes go to standard output, and to standard error.
-#[derive(Clone, Copy)]
-struct Ends {
-    written: usize,
-    said: usize,
-}
 
 // What goes to standard output stands at the front of the first buffer, what goes to standard error at the front of the second.
 fn answer(text: &[u8], sheet: &mut [u8], out: &mut [u8]) -> Ends
@@ -43,16 +36,9 @@ fn answer(text: &[u8], sheet: &mut [u8], out: &mut [u8]) -> Ends
     }
 }
 
-// Reads standard input as far as there is room, and gives how many bytes it read.
-fn read_text(rt: HostRuntime, text: &mut [u8; READ_TEXT]) -> usize
-    ensures { (length text.new ≡ 1048577) × (result ≤ 1048577) }
-{
-    read_full(&mut rt.stdin(), text)
-}
-
 fn main(rt: HostRuntime) {
     let mut text = [0u8; READ_TEXT];
-    let n = read_text(rt, &mut text);
+    let n = read_array(&mut rt.stdin(), &mut text);
     if MOST_TEXT < n {
         let _ = rt.stderr().write_all(b"text: more than 1048576 bytes\n");
         return;
@@ -60,9 +46,5 @@ fn main(rt: HostRuntime) {
     let mut sheet = [0u8; LENT_BYTES];
     let mut out = [0u8; LONGEST_REFUSAL];
     let ends = answer(&text[..n], &mut sheet, &mut out);
-    if let Err(e) = rt.write_all(&sheet[..ends.written]) {
-        tell(rt, b"standard output", e);
-        return;
-    }
-    let _ = rt.stderr().write_all(&out[..ends.said]);
+    put_ends(rt, ends, &sheet, &out);
 }

@@ -1,5 +1,9 @@
 // Texts into a lent buffer, and numbers into a lent array. A writer is the buffer and a place in it, and gives the place behind what it
 // wrote. What does not fit is not written, and the place is then one past the buffer's end, where every later writer leaves it.
+//
+// `out` and the place stay two parameters: a struct that holds the lent buffer would turn `out.old`, `out.new` of the clauses in ten
+// crates into fields of two structs, which is no plainer. `as` stands where std has no `From`, and `try_from` would give an `Err`
+// that cannot come.
 #![tactic(auto)]
 
 ghost use Rattle.std.specs.Prelude.{◌≡◌, [], ◌∷◌, ◌++◌, ◌+◌, ◌-◌, ◌*◌, ◌%◌, ◌<◌, ◌≤◌, length, replicate};
@@ -34,7 +38,8 @@ fn digit(n: usize) -> u8
     (48 + n % 10) as u8
 }
 
-// A number in decimal: all digits but the last, then the last.
+// A number in decimal: all digits but the last, then the last. Digit by digit: no contract names the bytes that `write!` puts
+// into a lent slice.
 pub fn put_decimal(out: &mut [u8], from: usize, n: usize) -> usize
     ensures { Writes (decimal n) out.old from out.new result }
 {
@@ -67,7 +72,8 @@ pub fn put_line(out: &mut [u8], from: usize, numbers: &[usize]) -> usize
     at
 }
 
-// The line of five numbers.
+// The line of five numbers. Five parameters: `label`, whose answer these are, stands above `writing`; the refusal is a number, as the call
+// for C gives it.
 pub fn put_five(
     out: &mut [u8],
     from: usize,
@@ -95,7 +101,8 @@ pub fn put_five(
 // The longest line of a refusal: two numbers of at most twenty digits, and one byte behind each.
 pub const LONGEST_REFUSAL: usize = 42;
 
-// The line of a refusal and its place; nothing where the refusal is 0. It ends inside a buffer that has room for the longest one.
+// The line of a refusal and its place; nothing where the refusal is 0. It ends inside a buffer that has room for the longest one. The
+// refusal is a number, as the calls for C give it.
 pub fn put_refusal(out: &mut [u8], refusal: u32, place: usize) -> usize
     ensures writes { Writes (refusal_line refusal place) out.old 0 out.new result }
     ensures upper_bound { longest_refusal ≤ length out.old → result ≤ length out.new }
@@ -117,7 +124,7 @@ pub fn put_bytes(out: &mut [u8], from: usize, bytes: &[u8]) -> usize
     at
 }
 
-// One value again and again, up to the buffer's end.
+// One value again and again, up to the buffer's end. Not `fill`: it wants that a clone cannot fail, which `T: Copy` does not say.
 pub fn put_copies<T: Copy>(out: &mut [T], from: usize, value: T) -> usize
     ensures { Writes (replicate (length out.old - from) value) out.old from out.new result }
 {
@@ -127,7 +134,17 @@ pub fn put_copies<T: Copy>(out: &mut [T], from: usize, value: T) -> usize
     from.max(out.len())
 }
 
-// Zeros up to the buffer's end.
+// Bytes that fit, and zeros behind them.
+pub fn fill(out: &mut [u8], bytes: &[u8])
+    requires { length bytes.now ≤ length out.old }
+    ensures { out.new ≡ bytes.now ++ replicate (length out.old - length bytes.now) 0 }
+{
+    let (front, rest) = out.split_at_mut(bytes.len());
+    front.copy_from_slice(bytes);
+    rest.fill(0);
+}
+
+// Zeros up to the buffer's end. Public: `print` calls it, and so does mend's edit `sheet_left_up_to_the_place`.
 pub fn put_zeros(out: &mut [u8], from: usize) -> usize
     ensures { Writes (replicate (length out.old - from) 0) out.old from out.new result }
 {

@@ -46,7 +46,7 @@ module _ (s : Bytes) (ns : Names) where
   means p e (P.unlock l) n t x = (refl, n)
   means p e (P.lock l) n t x = (refl, n)
 
-  pub fetched : (at : ℕ) (x : Statement) (f : Fetched) (k : Action) → Fetches s ns at x f → f.action ≡ k → Means s ns (x.place + 9) (body_end s x.place) k x.action
+  pub fetched : (at : ℕ) (x : Statement) (f : Fetched) (k : Action) → Fetches s ns at x f → f.statement.action ≡ k → Means s ns (x.place + 9) (body_end s x.place) k x.action
   fetched at x f k w e =
       subst (λ (i : Action). Means s ns (x.place + 9) (body_end s x.place) i x.action) (sym w.action ∙ e)
       (means (x.place + 9) (body_end s x.place) x.action w.named w.targets w.expresses)
@@ -71,43 +71,43 @@ of-program s g p places r t there =
 
 -- what each of its statements asks
 module _ (s : Bytes) (t n at : ℕ) (x : Statement) (f : Fetched) (o : OfProgram (program_in s) t n) (w : Fetches s (names_of (program_in s) t) at x f) where
-  pub skip-asks : f.action ≡ Skip → at < most_statements
+  pub skip-asks : f.statement.action ≡ Skip → at < most_statements
   unfolding is_halt
   skip-asks e = w.inside (ap is_halt (fetched s (names_of (program_in s) t) at x f Skip w e))
 
-  pub assign-asks : (r p e : ℕ) → f.action ≡ Assign r p e → (at < most_statements) × ((r < most_registers) × ((n ≤ most_registers) × (e ≤ length s)))
+  pub assign-asks : (r p e : ℕ) → f.statement.action ≡ Assign r p e → (at < most_statements) × ((r < most_registers) × ((n ≤ most_registers) × (e ≤ length s)))
   unfolding is_halt
   assign-asks r p e k =
       let m = fetched s (names_of (program_in s) t) at x f (Assign r p e) w k in
       let live : is_halt x.action ≡ false = ap is_halt m.1.0 in
       (w.inside live, (omega (arith, m.1.1.0, o.registers, o.regs_few), (o.regs_few, omega (arith, m.1.1.1.0, w.body live))))
 
-  pub branch-asks : (to p e : ℕ) → f.action ≡ Branch to p e → (at < most_statements) × ((to < most_statements) × ((n ≤ most_registers) × (e ≤ length s)))
+  pub branch-asks : (to p e : ℕ) → f.statement.action ≡ Branch to p e → (at < most_statements) × ((to < most_statements) × ((n ≤ most_registers) × (e ≤ length s)))
   unfolding is_halt
   branch-asks to p e k =
       let m = fetched s (names_of (program_in s) t) at x f (Branch to p e) w k in
       let live : is_halt x.action ≡ false = ap is_halt m.1.0 in
       (w.inside live, (m.1.1.0, (o.regs_few, omega (arith, m.1.1.1.0, w.body live))))
 
-  pub store_asks : (r k : ℕ) → f.action ≡ Store r k → (at < most_statements) × ((r < most_registers) × (k < most_variables))
+  pub store_asks : (r k : ℕ) → f.statement.action ≡ Store r k → (at < most_statements) × ((r < most_registers) × (k < most_variables))
   unfolding is_halt
   store_asks r k e =
       let m = fetched s (names_of (program_in s) t) at x f (Store r k) w e in
       (w.inside (ap is_halt m.0), (omega (arith, m.1.0, o.registers, o.regs_few), omega (arith, m.1.1, o.vars_few)))
 
-  pub load_asks : (r k : ℕ) → f.action ≡ Load r k → (at < most_statements) × ((r < most_registers) × (k < most_variables))
+  pub load_asks : (r k : ℕ) → f.statement.action ≡ Load r k → (at < most_statements) × ((r < most_registers) × (k < most_variables))
   unfolding is_halt
   load_asks r k e =
       let m = fetched s (names_of (program_in s) t) at x f (Load r k) w e in
       (w.inside (ap is_halt m.0), (omega (arith, m.1.0, o.registers, o.regs_few), omega (arith, m.1.1, o.vars_few)))
 
-  pub unlock-asks : (l : ℕ) → f.action ≡ Unlock l → (at < most_statements) × (l < most_locks)
+  pub unlock-asks : (l : ℕ) → f.statement.action ≡ Unlock l → (at < most_statements) × (l < most_locks)
   unfolding is_halt
   unlock-asks l e =
       let m = fetched s (names_of (program_in s) t) at x f (Unlock l) w e in
       (w.inside (ap is_halt m.0), omega (arith, m.1, o.locks_few))
 
-  pub lock-asks : (l : ℕ) → f.action ≡ Lock l → (at < most_statements) × (l < most_locks)
+  pub lock-asks : (l : ℕ) → f.statement.action ≡ Lock l → (at < most_statements) × (l < most_locks)
   unfolding is_halt
   lock-asks l e =
       let m = fetched s (names_of (program_in s) t) at x f (Lock l) w e in

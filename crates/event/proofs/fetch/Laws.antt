@@ -26,7 +26,7 @@ not-halt : {A : Type 0} → is_halt R.halt ≡ false → A
 unfolding is_halt
 not-halt h = let z : ◌≡◌ {A = ℕ} 0 1 = cc in absurd (omega arith)
 
-pub none-fetches : (s : Bytes) (ns : Names) (at : ℕ) → Fetches s ns at no_statement (record { place = 0; least = tick 0; greatest = tick 0; action = Halt })
+pub none-fetches : (s : Bytes) (ns : Names) (at : ℕ) → Fetches s ns at no_statement (record { place = 0; statement = record { least = tick 0; greatest = tick 0; action = Halt } })
 unfolding action_of
 none-fetches s ns at = record {
   place = refl;

@@ -135,69 +135,69 @@ module _ {b : Bytes} (x : Replay) (v : Event) {f : Fetched} (o : OfProgram (prog
   stands : at < most_statements → Stands x v
   stands h = (omega (arith, o.there, o.threads_few), h)
 
-  means : (k : Action) → f.action ≡ k → Means b (names_of g v.thread) (s.place + 9) (body_end b s.place) k s.action
+  means : (k : Action) → f.statement.action ≡ k → Means b (names_of g v.thread) (s.place + 9) (body_end b s.place) k s.action
   means k e = fetched b (names_of g v.thread) at s f k w e
 
   -- what it asks
-  pub skip-asked : f.action ≡ Skip → Stands x v
+  pub skip-asked : f.statement.action ≡ Skip → Stands x v
   skip-asked e = stands (skip-asks b v.thread v.registers at s f o w e)
 
   module _ {i p q : ℕ} where
-    pub assign-asked : f.action ≡ Assign i p q → Stands x v × ((i < most_registers) × ((v.registers ≤ most_registers) × (q ≤ length b)))
+    pub assign-asked : f.statement.action ≡ Assign i p q → Stands x v × ((i < most_registers) × ((v.registers ≤ most_registers) × (q ≤ length b)))
     assign-asked e = let k = assign-asks b v.thread v.registers at s f o w i p q e in (stands k.0, k.1)
 
-    pub branch-asked : f.action ≡ Branch i p q → Stands x v × ((i < most_statements) × ((v.registers ≤ most_registers) × (q ≤ length b)))
+    pub branch-asked : f.statement.action ≡ Branch i p q → Stands x v × ((i < most_statements) × ((v.registers ≤ most_registers) × (q ≤ length b)))
     branch-asked e = let k = branch-asks b v.thread v.registers at s f o w i p q e in (stands k.0, k.1)
 
   module _ {i k : ℕ} where
-    pub store-asked : f.action ≡ Store i k → Stands x v × ((i < most_registers) × (k < most_variables))
+    pub store-asked : f.statement.action ≡ Store i k → Stands x v × ((i < most_registers) × (k < most_variables))
     store-asked e = let m = store_asks b v.thread v.registers at s f o w i k e in (stands m.0, m.1)
 
-    pub load-asked : f.action ≡ Load i k → Stands x v × ((i < most_registers) × (k < most_variables))
+    pub load-asked : f.statement.action ≡ Load i k → Stands x v × ((i < most_registers) × (k < most_variables))
     load-asked e = let m = load_asks b v.thread v.registers at s f o w i k e in (stands m.0, m.1)
 
   module _ {l : ℕ} where
-    pub unlock-asked : f.action ≡ Unlock l → Stands x v × (l < most_locks)
+    pub unlock-asked : f.statement.action ≡ Unlock l → Stands x v × (l < most_locks)
     unlock-asked e = let m = unlock-asks b v.thread v.registers at s f o w l e in (stands m.0, m.1)
 
-    pub lock-asked : f.action ≡ Lock l → Stands x v × (l < most_locks)
+    pub lock-asked : f.statement.action ≡ Lock l → Stands x v × (l < most_locks)
     lock-asked e = let m = lock-asks b v.thread v.registers at s f o w l e in (stands m.0, m.1)
 
   -- what it does
-  pub halt-out : f.action ≡ Halt → is_halt s.action ≡ false → ⊥
+  pub halt-out : f.statement.action ≡ Halt → is_halt s.action ≡ false → ⊥
   unfolding is_halt
   halt-out e l = let n : true ≡ false = sym (ap is_halt (means Halt e)) ∙ l in cc
 
   module _ (y : Result Replay Refusal) where
-    pub skip-acts : f.action ≡ Skip → ((z : Sizes) → Sized z v → Acts z x v P.skip y) → Acts z x v s.action y
+    pub skip-acts : f.statement.action ≡ Skip → ((z : Sizes) → Sized z v → Acts z x v P.skip y) → Acts z x v s.action y
     skip-acts e h = rw (means Skip e) (h z sized)
 
     module _ {i p q : ℕ} where
-      pub assign-acts : f.action ≡ Assign i p q
+      pub assign-acts : f.statement.action ≡ Assign i p q
           → ((z : Sizes) (a : P.Arith) → Sized z v → read_arith deepest b q v.registers p ≡ got a q → Acts z x v (P.assign i a) y) → Acts z x v s.action y
       assign-acts e h =
           let m = means (Assign i p q) e in
           rw m.1.0 (h z m.0 sized (subst (λ (n : ℕ). read_arith deepest b q n p ≡ got m.0 q) (sym o.registers) m.1.1.1.1))
 
-      pub branch-acts : f.action ≡ Branch i p q
+      pub branch-acts : f.statement.action ≡ Branch i p q
           → ((z : Sizes) (a : P.Condition) → Sized z v → read_condition deepest b q v.registers p ≡ got a q → Acts z x v (P.branch i a) y) → Acts z x v s.action y
       branch-acts e h =
           let m = means (Branch i p q) e in
           rw m.1.0 (h z m.0 sized (subst (λ (n : ℕ). read_condition deepest b q n p ≡ got m.0 q) (sym o.registers) m.1.1.1.1))
 
     module _ {i k : ℕ} where
-      pub store-acts : f.action ≡ Store i k → ((z : Sizes) → Sized z v → i < v.registers → Acts z x v (P.store i k) y) → Acts z x v s.action y
+      pub store-acts : f.statement.action ≡ Store i k → ((z : Sizes) → Sized z v → i < v.registers → Acts z x v (P.store i k) y) → Acts z x v s.action y
       store-acts e h = let m = means (Store i k) e in rw m.0 (h z sized (rw o.registers m.1.0))
 
-      pub load-acts : f.action ≡ Load i k → ((z : Sizes) → Sized z v → k < z.vars → Acts z x v (P.load i k) y) → Acts z x v s.action y
+      pub load-acts : f.statement.action ≡ Load i k → ((z : Sizes) → Sized z v → k < z.vars → Acts z x v (P.load i k) y) → Acts z x v s.action y
       unfolding sizes_of
       load-acts e h = let m = means (Load i k) e in rw m.0 (h z sized m.1.1)
 
     module _ {l : ℕ} where
-      pub unlock-acts : f.action ≡ Unlock l → ((z : Sizes) → Sized z v → l < z.locks → Acts z x v (P.unlock l) y) → Acts z x v s.action y
+      pub unlock-acts : f.statement.action ≡ Unlock l → ((z : Sizes) → Sized z v → l < z.locks → Acts z x v (P.unlock l) y) → Acts z x v s.action y
       unfolding sizes_of
       unlock-acts e h = let m = means (Unlock l) e in rw m.0 (h z sized m.1)
 
-      pub lock-acts : f.action ≡ Lock l → ((z : Sizes) → Sized z v → l < z.locks → Acts z x v (P.lock l) y) → Acts z x v s.action y
+      pub lock-acts : f.statement.action ≡ Lock l → ((z : Sizes) → Sized z v → l < z.locks → Acts z x v (P.lock l) y) → Acts z x v s.action y
       unfolding sizes_of
       lock-acts e h = let m = means (Lock l) e in rw m.0 (h z sized m.1)

@@ -18,7 +18,7 @@ use Rattle.refusal.specs.Shape.{rule_of}
 use Rattle.interval.specs.declared.Val.{Val}
 use Rattle.interval.specs.declared.Span.{Span}
 use Rattle.expression.specs.Evaluation.{regs_of, evaluated_in}
-use Rattle.expression.specs.Parts.{parts_in}
+use Rattle.expression.specs.Parts.{check_of, parts_in}
 use Rattle.expression.specs.Comparison.{narrowed_of}
 use Rattle.expression.specs.Narrowing.{yes_in}
 use Rattle.expression.specs.Whole.{result_in, left_in, Branches}
@@ -71,8 +71,8 @@ module _ (zs : List ℤ) (rs : Regs) (known : rs ≡ map single zs) (end : ℕ) 
     fault-of (fault r) q k = let z : q ≡ r = cc in ap fault z
     fault-of (value t) q k = absurd (let z : ◌≡◌ {A = ℕ} 0 1 = cc in omega arith)
 
-    pub truth-faults : {q : Refusal} → Branches n rs g (Err q) → fault (rule_of q) ≡ truth_of c zs
-    truth-faults {q} h = fault-of (truth_of c zs) (rule_of q) (checked h.check)
+    pub truth-faults : {b : Branch} {q : Refusal} → Branches n rs g b → b.check ≡ Err q → fault (rule_of q) ≡ truth_of c zs
+    truth-faults {b} {q} h k = fault-of (truth_of c zs) (rule_of q) (sym (ap check_of k) ∙ checked h.check)
 
     open_by : (o : Option (List Span)) → is_some o ≡ is_open (narrowed_of n o)
     open_by None = refl
@@ -82,9 +82,9 @@ module _ (zs : List ℤ) (rs : Regs) (known : rs ≡ map single zs) (end : ℕ) 
     is-value (value u) q = tt
     is-value (fault r) q = absurd (let z : ◌≡◌ {A = ℕ} 0 1 = cc in omega arith)
 
-    pub truth-is : {b : Branch} → Branches n rs g (Ok b) → value (is_some b.yes) ≡ truth_of c zs
-    truth-is {b} h =
-        let passed : value tt ≡ all_parts c (map single zs) = checked h.check ∙ sym (parts-single c zs) in
+    pub truth-is : {b : Branch} {u : Unit {0}} → Branches n rs g b → b.check ≡ Ok u → value (is_some b.yes) ≡ truth_of c zs
+    truth-is {b} {u} h k =
+        let passed : value tt ≡ all_parts c (map single zs) = sym (ap check_of k) ∙ checked h.check ∙ sym (parts-single c zs) in
         let taken : is_open (narrowed_of n b.yes) ≡ is_open (narrow_yes c (map single zs)) =
         ap is_open (h.yes ∙ ap (λ (k : Got P.Condition). left_in (yes_in rs k)) e ∙ ap (narrow_yes c) known) in
         ap value (open_by b.yes ∙ taken) ∙ sym (truth-by-yes c zs (is-value (all_parts c (map single zs)) passed))

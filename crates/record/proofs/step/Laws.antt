@@ -107,34 +107,34 @@ module _ (s : Bytes) (x : Replay) (four : length x.threads ≡ most_threads) (fe
       unfolding statement_of
       statement-is = ap (λ (y : RunThread). statement_in g u y.at) thread_is
 
-      halts-is : halts f.action ≡ is_halt (statement_in g u (thread_at x u).at).action
+      halts-is : halts f.statement.action ≡ is_halt (statement_in g u (thread_at x u).at).action
       halts-is = ap halts w.action ∙ halts-same _ _ (statement_in g u (thread_at x u).at).action
 
-      pub due_is : (e : ℕ) → is_due (thread_at x u).clock.0 (halts f.action) f.least.0 e ≡ due_at g st e u
+      pub due_is : (e : ℕ) → is_due (thread_at x u).clock.0 (halts f.statement.action) f.statement.least.0 e ≡ due_at g st e u
       unfolding live
       due_is e = rw (thread_is, statement-is, halts-is, w.least)
 
-      pub allows-is : (e : ℕ) → allows (thread_at x u).clock.0 (halts f.action) f.greatest.0 e ≡ allows_at g st e u
+      pub allows-is : (e : ℕ) → allows (thread_at x u).clock.0 (halts f.statement.action) f.statement.greatest.0 e ≡ allows_at g st e u
       unfolding live allows_at
       allows-is e = rw (thread_is, statement-is, halts-is, w.greatest, sym (not_not (is_halt (statement_in g u (thread_at x u).at).action)))
 
-      pub halted-is : halts f.action ≡ not (live g st u)
+      pub halted-is : halts f.statement.action ≡ not (live g st u)
       unfolding live
       halted-is = rw (halts-is, statement-is, sym (not_not (is_halt (statement_in g u (thread_at x u).at).action)))
 
-      live_is : (e : ℕ) → is_due (thread_at x u).clock.0 (halts f.action) f.least.0 e ≡ true → is_halt (statement_in g u (thread_at x u).at).action ≡ false
-      live_is e d = sym halts-is ∙ by-due (halts f.action) (leb ((thread_at x u).clock.0 + f.least.0) e) d
+      live_is : (e : ℕ) → is_due (thread_at x u).clock.0 (halts f.statement.action) f.statement.least.0 e ≡ true → is_halt (statement_in g u (thread_at x u).at).action ≡ false
+      live_is e d = sym halts-is ∙ by-due (halts f.statement.action) (leb ((thread_at x u).clock.0 + f.statement.least.0) e) d
 
       module _ (e : ℕ) where
-        pub too_early : false ≡ is_due (thread_at x u).clock.0 (halts f.action) f.least.0 e → fault not_run ≡ replayed e (step g st u e)
+        pub too_early : false ≡ is_due (thread_at x u).clock.0 (halts f.statement.action) f.statement.least.0 e → fault not_run ≡ replayed e (step g st u e)
         too_early d = not-due g st u e b (sym (d ∙ due_is e))
 
-        pub held_back : true ≡ is_due (thread_at x u).clock.0 (halts f.action) f.least.0 e → false ≡ all_below (length g.threads) (allows_at g st e)
+        pub held_back : true ≡ is_due (thread_at x u).clock.0 (halts f.statement.action) f.statement.least.0 e → false ≡ all_below (length g.threads) (allows_at g st e)
             → fault not_run ≡ replayed e (step g st u e)
         held_back d a = not-allowed g st u e b (sym (d ∙ due_is e)) (sym a)
 
       pub an-event : (v : Event) → v.thread ≡ u → v.registers ≡ get_or (sizes_of g).regs u 0
-          → true ≡ is_due (thread_at x u).clock.0 (halts f.action) f.least.0 v.tick.0 → true ≡ all_below (length g.threads) (allows_at g st v.tick.0)
+          → true ≡ is_due (thread_at x u).clock.0 (halts f.statement.action) f.statement.least.0 v.tick.0 → true ≡ all_below (length g.threads) (allows_at g st v.tick.0)
           → (r : Result Replay Refusal)
           → ((y : Statement) → Fetches s (names_of g u) (thread_at x u).at y f → is_halt y.action ≡ false → Acts (sizes_of g) x v y.action r)
           → replayed_of (sizes_of g) r ≡ replayed v.tick.0 (step g st u v.tick.0)

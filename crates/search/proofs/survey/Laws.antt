@@ -48,7 +48,7 @@ lock-there ns at e (R.unlock l) h n = tt
 lock-there ns at e (R.lock l) h n = omega arith
 
 pub fetched-lock : {s : Bytes} {ns : Names} {at : ℕ} {x : R.Statement} {f : Fetched} → ns.locks ≤ most_locks → Fetches s ns at x f
-    → LockThere f.action
+    → LockThere f.statement.action
 fetched-lock {s} {ns} {at} {x} {f} h w = subst LockThere (sym w.action)
     (lock-there ns (x.place + 9) (body_end s x.place) x.action h w.named)
 
@@ -131,7 +131,7 @@ module _ (x : Taken) (ready : IsReady x) where
   pub survey-more : (t : ℕ) → t < length (program_of x).threads → (f : Fetched) (a : Survey)
       → Fetches x.sheet.now (names_of (program_of x) t) (thread_at (decode x.cells.now) t).at
       (statement_in (program_of x) t (thread_at (decode x.cells.now) t).at) f
-      → SurveysFrom x (suc t) a → SurveysFrom x t (add_thread a t (thread_at (decode x.cells.now) t).clock f (decode x.cells.now).owners)
+      → SurveysFrom x (suc t) a → SurveysFrom x t (add_thread a t (thread_at (decode x.cells.now) t).clock f.statement (decode x.cells.now).owners)
   unfolding live_from statement_at add_thread
   survey-more t h f a w i =
       let g = program_of x in
@@ -144,22 +144,22 @@ module _ (x : Taken) (ready : IsReady x) where
       let rest = drop (suc t) xs in
       let vs = live_in x (suc t) in
       let v : Live = record { thread = t; here = y; statement = st } in
-      let b = add_thread a t thread.clock f s.owners in
+      let b = add_thread a t thread.clock f.statement s.owners in
       let sizes = sizes-threads g in
       let in-xs : t < length xs = omega (arith, state-threads) in
       let in-sizes : t < length (sizes_in x).regs = omega arith in
       let state-is : drop t xs ≡ y ∷ rest = drop-cons xs t y in-xs ∙ ap (λ (u : ThreadState). u ∷ rest)
       (state-thread (sizes_in x) s t y in-sizes few-sizes sound.four) in
       let code_is : drop t g.threads ≡ thread_in g t ∷ drop (suc t) g.threads = drop-cons g.threads t no_thread h in
-      let halts-is : halts f.action ≡ is_halt st.action =
+      let halts-is : halts f.statement.action ≡ is_halt st.action =
       ap halts w.action ∙ halts-same (st.place + 9) (body_end x.sheet.now st.place) st.action in
-      let waits-is : waits_at t f.action s.owners ≡ waits os v =
+      let waits-is : waits_at t f.statement.action s.owners ≡ waits os v =
       ap (λ (k : Action). waits_at t k s.owners) w.action
       ∙ waits-same os s.owners (names_of g t) owner-there t (st.place + 9)
       (body_end x.sheet.now st.place) y st.place st.least st.greatest st.action w.named in
-      let due_is : thread.clock.high.0 + f.greatest.0 ≡ y.high + st.greatest = ap (λ (k : ℕ). thread.clock.high.0 + k) w.greatest in
-      let made : Surveys os (if halts f.action then vs else v ∷ vs) (y ∷ rest) b =
-      thread-more os v vs rest a (halts f.action) (waits_at t f.action s.owners) (thread.clock.high.0 + f.greatest.0) i waits-is due_is in
+      let due_is : thread.clock.high.0 + f.statement.greatest.0 ≡ y.high + st.greatest = ap (λ (k : ℕ). thread.clock.high.0 + k) w.greatest in
+      let made : Surveys os (if halts f.statement.action then vs else v ∷ vs) (y ∷ rest) b =
+      thread-more os v vs rest a (halts f.statement.action) (waits_at t f.statement.action s.owners) (thread.clock.high.0 + f.statement.greatest.0) i waits-is due_is in
       subst (λ (l : List ThreadState). Surveys os (live_from t (drop t g.threads) l) l b) (sym state-is)
       (subst (λ (l : List R.Thread). Surveys os (live_from t l (y ∷ rest)) (y ∷ rest) b) (sym code_is)
       (subst (λ (k : Bool). Surveys os (if k then vs else v ∷ vs) (y ∷ rest) b) halts-is made))
@@ -174,7 +174,7 @@ at-or-above zero (suc t) l f g = absurd (omega arith)
 at-or-above (suc k) (suc t) l f g = at-or-above k t (omega arith) (λ e. f (omega arith)) (λ q. g (omega arith))
 
 earliest-same : {sheet : Bytes} {ns : Names} {at : ℕ} {x : R.Statement} {f : Fetched} (low : ℕ) → Fetches sheet ns at x f
-    → earliest_of (halts f.action) low f.least.0 ≡ earliest_of (is_halt x.action) low x.least
+    → earliest_of (halts f.statement.action) low f.statement.least.0 ≡ earliest_of (is_halt x.action) low x.least
 earliest-same {sheet} {ns} {at} {x} low w =
     λ i. earliest_of ((ap halts w.action ∙ halts-same (x.place + 9) (body_end sheet x.place) x.action) i) low (w.least i)
 
@@ -185,7 +185,7 @@ earliest-start x t ticks h k l r = absurd (omega arith)
 pub earliest-more : (x : Taken) (t : ℕ) (ticks : List (Option Time)) {f : Fetched} (e : Option Time) → t < length ticks
     → Fetches x.sheet.now (names_of (program_of x) t) (thread_at (decode x.cells.now) t).at
     (statement_in (program_of x) t (thread_at (decode x.cells.now) t).at) f
-    → e ≡ earliest_of (halts f.action) (thread_at (decode x.cells.now) t).clock.low.0 f.least.0 → EarliestFrom x (suc t) ticks
+    → e ≡ earliest_of (halts f.statement.action) (thread_at (decode x.cells.now) t).clock.low.0 f.statement.least.0 → EarliestFrom x (suc t) ticks
     → EarliestFrom x t (set ticks t e)
 earliest-more x t ticks e room w ex later k l r =
     at-or-above k t l

@@ -1,5 +1,5 @@
 -- What the search leaves of `convert::head::head_at`.
-use Rattle.lines.proofs.Steps.{exits}
+use Rattle.scan.proofs.Readings.{exits}
 use Rattle.convert.specs.Head.{Heads}
 use Rattle.convert.proofs.HeadLaws.{headed}
 use Rattle.convert.proofs.HeadReading.{limit-stops, budget-stops, label-stops, three-read}

@@ -1,6 +1,6 @@
 -- What the search leaves of `convert::whole::lines_at`.
 use mathlib.Core.Path.{sym, ◌∙◌}
-use Rattle.lines.proofs.Steps.{exits}
+use Rattle.scan.proofs.Readings.{exits}
 use Rattle.convert.specs.Whole.{MadeFrom}
 use Rattle.convert.proofs.LineByLine.{loop-start, loop-more, going-over, going-stop, line-further}
 use Rattle.convert.proofs.whole.lines_at.Goals as goal
@@ -15,11 +15,11 @@ returns-in_err-x-clause-made_from c =
 
 pub loop-due-smaller : goal.loop-due-smaller
 loop-due-smaller c =
-    line-further _ _ _ _ c.loop-due.invariant.inside c.in_ok-x.ensures.onward_field.0.1 c.in_ok-x.ensures.lays.is
+    line-further _ _ _ _ c.loop-due.invariant.inside c.in_ok-x.ensures.onward_field.inside c.in_ok-x.ensures.lays.is
 
 pub loop-due-preserved : goal.loop-due-preserved
 loop-due-preserved c =
-    loop-more _ _ _ _ _ _ _ _ _ c.loop-due.invariant _ _ _ _ _ _ _ c.in_ok-x.ensures.onward_field.0.1 c.settled-w.ensures.end_bound.0
+    loop-more _ _ _ _ _ _ _ _ _ c.loop-due.invariant _ _ _ _ _ _ _ c.in_ok-x.ensures.onward_field.inside c.settled-w.ensures.end_bound.0
     c.settled-w.ensures.end_bound.1 c.line_behind.auto.out c.settled-w.auto.out (sym c.is_over.ensures ∙ c.loop-due-test.true)
     c.in_ok-x.ensures.lays c.settled-w.ensures.so_far
 

@@ -19,7 +19,6 @@ returns-clause-leaves c =
     let x = thread_at s v.thread in
     λ z h.
     let value = ap interval_of c.variable_of.ensures ∙ sym (state-var z s c.args.k h) in (
-      _,
       refl,
       pushed-as (ap (λ (i : Interval). moved_by z s v (suc x.at) (set (regs_of (get_or z.regs v.thread 0) x.regs) c.args.r i)) value)
           (c.write_register.ensures.grows z),

@@ -23,7 +23,6 @@ returns-clause-leaves c =
     let wrote : decode put.1 ≡ with_var (moved_to s m (thread_at s m.thread).regs) c.args.k i = search (rules, put.2) in
     λ z h.
     let value = ap interval_of c.register_of-i.ensures ∙ sym (regs-get (get_or z.regs v.thread 0) (thread_at s v.thread).regs c.args.r h) in (
-      _,
       refl,
       pushed-as (ap (λ (x : Interval). moved_with z s v (suc (thread_at s v.thread).at) (set (state_of z s).vars c.args.k x) (state_of z s).owners) value)
           (variable-pushed put.1 s v _ c.onward-m.ensures (put.3 z) c.args.k i wrote),

@@ -20,7 +20,6 @@ returns-then-may_take-clause-leaves c =
     let wrote : decode put.1 ≡ with_owner (moved_to s m (thread_at s m.thread).regs) c.args.l o = search (rules, put.2) in
     let may = sym (ap (λ (x : ℕ). may_take v.thread (owner_of x)) c.owner_of.ensures) ∙ sym c.may_take.ensures ∙ c.if-may_take.true in
     λ z h. (
-      _,
       refl,
       pushed-as (locks z s v c.args.l h o c.owner-o.ensures may) (owner-pushed put.1 s v _ c.onward-m.ensures (put.3 z) c.args.l o wrote),
     )
@@ -35,7 +34,6 @@ returns-else-may_take-clause-leaves c =
     let wrote : decode put.1 ≡ moved_to s m (thread_at s m.thread).regs = search (rules, put.2) in
     let waits = sym (ap (λ (x : ℕ). may_take v.thread (owner_of x)) c.owner_of.ensures) ∙ sym c.may_take.ensures ∙ c.if-may_take.false in
     λ z h. (
-      _,
       refl,
       pushed-as (waits-on z s v c.args.l h c.at_of.result c.at_of.ensures waits)
           (moved-pushed put.1 s v c.at_of.result c.move_to-m.ensures (put.3 z) (λ t. (thread_at s t).regs) wrote),

@@ -19,4 +19,4 @@ returns-clause-leaves c =
     let put = c.push.ensures.pushed in
     let wrote : decode put.1 ≡ with_owner (moved_to s m (thread_at s m.thread).regs) c.args.l o = search (rules, put.2) in
     let owner = c.after_unlock-o.ensures ∙ ap (λ (x : ℕ). after_unlock v.thread (owner_of x)) c.owner_of.ensures in
-    λ z h. (_, refl, pushed-as (unlocks z s v c.args.l h o owner) (owner-pushed put.1 s v _ c.onward-m.ensures (put.3 z) c.args.l o wrote))
+    λ z h. (refl, pushed-as (unlocks z s v c.args.l h o owner) (owner-pushed put.1 s v _ c.onward-m.ensures (put.3 z) c.args.l o wrote))

@@ -4,5 +4,5 @@ use Rattle.lines.proofs.line.thread_at.Goals as goal
 
 pub returns-clause-lines : goal.returns-clause-lines
 returns-clause-lines c =
-    thread-put _ _ _ c.in_ok-end.ensures.reads _ _ _ _ _ _ c.in_ok-place.ensures.reads c.registers_ahead.ensures c.put_one.ensures
+    thread-put _ _ _ c.in_ok-end.ensures.reads _ _ _ _ _ c.in_ok-place.ensures.reads c.registers_ahead.ensures c.put_one.ensures
     c.past.ensures

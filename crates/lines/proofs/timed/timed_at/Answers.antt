@@ -2,7 +2,7 @@
 use mathlib.Core.Path.{sym, ◌∙◌}
 use native.Mathlib.Omega.{arith}
 use Rattle.lines.specs.Writing.{Acts, Lines}
-use Rattle.lines.proofs.Steps.{exits}
+use Rattle.scan.proofs.Readings.{exits}
 use Rattle.lines.proofs.ActionLaws.{and-of, and-not}
 use Rattle.lines.proofs.DispatchLaws.{spaces-twice}
 use Rattle.lines.proofs.TimedLaws.{timed-timeless, timed-stops, timed-endless, timed-put}
@@ -34,11 +34,11 @@ returns-in_err-place-clause-lines c =
 pub returns-then-is_small-clause-lines : goal.returns-then-is_small-clause-lines
 returns-then-is_small-clause-lines c =
     timed-put _ _ _ c.in_ok-times.ensures.result_value _ c.spaces_end-word.ensures.reads _ _ _ _ _ c.requires.2 c.action_at.auto.out
-    c.past.ensures _ _ _ _ c.in_ok-x.ensures.acts
+    c.past.ensures _ _ _ c.in_ok-x.ensures.acts
     c.in_ok-place.ensures.reads c.put_timed.ensures (and-of (sym c.is_small.ensures ∙ c.if-is_small.true))
 
 pub returns-else-is_small-clause-lines : goal.returns-else-is_small-clause-lines
 returns-else-is_small-clause-lines c =
     timed-put _ _ _ c.in_ok-times.ensures.result_value _ c.spaces_end-word.ensures.reads _ _ _ _ _ c.requires.2 c.action_at.auto.out
-    c.past.ensures _ _ _ _ c.in_ok-x.ensures.acts
+    c.past.ensures _ _ _ c.in_ok-x.ensures.acts
     c.in_ok-place.ensures.reads c.put_timed.ensures (c.is_small.ensures ∙ and-not _ (sym c.is_small.ensures ∙ c.if-is_small.false))

@@ -6,7 +6,7 @@ use Rattle.print.proofs.whole.print_head.Goals as goal
 
 pub returns : goal.returns
 returns c =
-    let i = c.args.index in
+    let i = c.args.index.now in
     same_text _ _ _ _ _ _ (head-text i _ _ _ _ refl refl refl refl)
     (then-writes _ _ _ _ _ _ _ _ c.put_named-first.ensures
     (then-writes _ _ _ _ _ _ _ _ c.put_named-second.ensures

@@ -11,14 +11,14 @@ pub follow_record-requires : goal.follow_record-requires
 follow_record-requires c =
     let a = c.args in
     let four : length c.start-first.result.threads ≡ most_threads = omega arith in (
-      record { planned = ready a.bytes.now a.index c.requires; counted = variables-are a.bytes.now a.index c.requires },
+      record { planned = rw c.from.ensures (ready a.bytes.now a.index c.requires); counted = variables-are a.bytes.now a.index c.requires },
       starts_from a.bytes.now a.index c.requires c.start-first.result four c.start-first.ensures.starts,
     )
 
 pub all_halt-requires : goal.all_halt-requires
 all_halt-requires c =
     let a = c.args in
-    record { planned = ready a.bytes.now a.index c.requires; counted = variables-are a.bytes.now a.index c.requires }
+    record { planned = rw c.from.ensures (ready a.bytes.now a.index c.requires); counted = variables-are a.bytes.now a.index c.requires }
 
 pub returns-in-Err : goal.returns-in-Err
 unfolding answer_of

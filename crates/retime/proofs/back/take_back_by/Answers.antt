@@ -12,21 +12,21 @@ returns-in_default c =
     let s = c.args.sheet.now in
     let d = change_of c.args.change in
     let (g, e, r, n) = found_none s c.requires d.thread d.statement c.in_default.ensures in
-    back-placeless s d c.placeless.ensures (statement-absent s d.thread d.statement _ g e r n)
+    back-placeless s d c.from.ensures (statement-absent s d.thread d.statement _ g e r n)
 
 pub returns-then-not-may_have : goal.returns-then-not-may_have
 returns-then-not-may_have c =
     let s = c.args.sheet.now in
     let d = change_of c.args.change in
     let w = found-there s c.requires d.thread d.statement c.in-Some.ensures in
-    back-placeless s d c.placeless-then-not-may_have.ensures (found-off s d w (sym c.may_have.ensures ∙ c.if-not-may_have.true))
+    back-placeless s d c.from-then-not-may_have.ensures (found-off s d w (sym c.may_have.ensures ∙ c.if-not-may_have.true))
 
 pub returns-then-not-shows : goal.returns-then-not-shows
 returns-then-not-shows c =
     let s = c.args.sheet.now in
     let d = change_of c.args.change in
     let w = found-there s c.requires d.thread d.statement c.in-Some.ensures in
-    back-placeless s d c.placeless-then-not-shows.ensures
+    back-placeless s d c.from-then-not-shows.ensures
     (found-since s d w (sym c.may_have.ensures ∙ c.if-not-may_have.false) (sym c.shows.ensures ∙ c.if-not-shows.true))
 
 pub write_times-requires : goal.write_times-requires

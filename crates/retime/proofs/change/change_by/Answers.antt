@@ -9,14 +9,14 @@ pub returns-in_default : goal.returns-in_default
 returns-in_default c =
     let a = c.args in
     let (g, e, r, n) = found_none a.sheet.now c.requires a.asked.thread a.asked.statement c.in_default.ensures in
-    given-placeless a.sheet.now a.asked.thread a.asked.statement a.asked.least a.asked.greatest c.placeless.ensures
+    given-placeless a.sheet.now a.asked.thread a.asked.statement a.asked.least a.asked.greatest c.from.ensures
     (statement-absent a.sheet.now a.asked.thread a.asked.statement _ g e r n)
 
 pub returns-then-not-may_have : goal.returns-then-not-may_have
 returns-then-not-may_have c =
     let a = c.args in
     let w = found-there a.sheet.now c.requires a.asked.thread a.asked.statement c.in-Some.ensures in
-    given-placeless a.sheet.now a.asked.thread a.asked.statement a.asked.least a.asked.greatest c.placeless-then-not-may_have.ensures
+    given-placeless a.sheet.now a.asked.thread a.asked.statement a.asked.least a.asked.greatest c.from-then-not-may_have.ensures
     (found-off w a.asked.least a.asked.greatest (sym c.may_have.ensures ∙ c.if-not-may_have.true))
 
 pub write_times-requires : goal.write_times-requires

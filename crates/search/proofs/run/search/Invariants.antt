@@ -1,7 +1,6 @@
 -- What the loop of `search::run::search` keeps, and what falls.
 use Prim.Native.Nat.{◌-◌}
 use mathlib.Core.List.{[], ◌∷◌}
-use lib.ListN.{length}
 use Rattle.rules.specs.Search as S
 use Rattle.rules.specs.Search.{unseen}
 use Rattle.state.specs.Shape.{sizes_of, state_of}
@@ -10,10 +9,10 @@ use Rattle.search.specs.Run.{window_of}
 use Rattle.search.proofs.RunLaws.{Goes}
 use Rattle.search.proofs.run.search.Given as goal
 
-abbrev pub invariant-loop-height : goal.invariant-loop-height
-invariant-loop-height l = Goes (S.search l.budget (program_in l.sheet) l.slots
+abbrev pub invariant-loop-stack : goal.invariant-loop-stack
+invariant-loop-stack l = Goes (S.search l.budget (program_in l.sheet) l.fn.stack.slots
     (state_of (sizes_of (program_in l.sheet)) l.fn.first ∷ []) unseen 0)
-    (program_in l.sheet) l.slots l.budget (length l.fn.work) l.work l.height l.steps (window_of l.found)
+    (program_in l.sheet) l.budget l.fn.stack l.stack l.steps (window_of l.found)
 
-abbrev pub decreases-loop-height : goal.decreases-loop-height
-decreases-loop-height l = l.budget - l.steps
+abbrev pub decreases-loop-stack : goal.decreases-loop-stack
+decreases-loop-stack l = l.budget - l.steps

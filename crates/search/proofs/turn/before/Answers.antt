@@ -9,7 +9,7 @@ use Rattle.search.proofs.turn.before.Goals as goal
 pub returns-in_default-clause-makes : goal.returns-in_default-clause-makes
 returns-in_default-clause-makes c =
     let a = c.args in
-    (λ b h e k. rw (none-halted a.taken.now a.t c.requires.0 c.requires.1.0 a.latest.0 a.bound.0
+    (λ s e k. rw (none-halted a.taken.now a.t c.requires.0 c.requires.1.0 a.latest.0 a.bound.0
     (sym c.requires.1.1.0 ∙ c.in_default.is)) k)
 
 pub returns-then-too_late-clause-makes : goal.returns-then-too_late-clause-makes
@@ -17,15 +17,16 @@ returns-then-too_late-clause-makes c =
     let a = c.args in
     let from : c.max-from.result.0 ≡ max a.latest.0 c.in-Some.earliest.0 = search rules in
     let late : a.bound.0 < c.max-from.result.0 = search rules in
-    (λ b h e k. rw (none-late a.taken.now a.t c.requires.0 c.requires.1.0 a.latest.0 a.bound.0 c.in-Some.earliest
+    (λ s e k. rw (none-late a.taken.now a.t c.requires.0 c.requires.1.0 a.latest.0 a.bound.0 c.in-Some.earliest
     (sym c.requires.1.1.0 ∙ c.in-Some.is) (omega arith)) k)
 
 pub act-acted-requires : goal.act-acted-requires
 act-acted-requires c =
     let a = c.args in
     let in_time : c.max-from.result.0 ≤ a.bound.0 = search rules in
-    act-asks a.taken.now a.t c.requires.0 c.requires.1.0 c.fetch-f.ensures c.max-from.result.0 a.bound.0 c.event-v.ensures in_time
-    c.requires.1.1.1.0 c.requires.1.1.1.1.1.0 c.requires.1.1.1.1.1.1
+    let asks = act-asks a.taken.now a.t c.requires.0 c.requires.1.0 c.fetch-f.ensures c.max-from.result.0 a.bound.0 c.event-v.ensures in_time
+    c.requires.1.1.1.0 in
+    record { ticks = asks.0; program = asks.1.0; fetched = asks.1.1 }
 
 pub returns-clause-makes : goal.returns-clause-makes
 returns-clause-makes c =
@@ -34,6 +35,6 @@ returns-clause-makes c =
     let in_time : c.max-from.result.0 ≤ a.bound.0 = search rules in
     let fetched = fetched-for a.taken.now a.t c.requires.0 c.requires.1.0 c.fetch-f.ensures c.max-from.result.0 a.bound.0
     c.event-v.ensures in
-    (λ b h e k. rw c.over.ensures (event-makes a.taken.now a.t c.requires.0 c.requires.1.0 c.fetch-f.ensures c.max-from.result.0
+    rw c.over.ensures (event-makes a.taken.now a.t c.requires.0 c.requires.1.0 c.fetch-f.ensures c.max-from.result.0
     a.bound.0 c.event-v.ensures a.latest.0 c.in-Some.earliest (sym c.requires.1.1.0 ∙ c.in-Some.is) from in_time
-    a.slots b a.work.now c.act-acted.new.work h a.height a.later c.act-acted.result e k (c.act-acted.ensures _ fetched)))
+    a.stack.now c.act-acted.new.stack a.later c.act-acted.result (c.act-acted.ensures.leaves _ fetched))

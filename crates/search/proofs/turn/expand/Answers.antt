@@ -1,4 +1,5 @@
 -- What the search leaves of `search::turn::expand`.
+use mathlib.Core.Path.{◌∙◌}
 use native.Mathlib.Omega.{arith}
 use Rattle.search.proofs.ExpandLaws.{expand-start, expand-later}
 use Rattle.search.proofs.turn.expand.Goals as goal
@@ -6,15 +7,14 @@ use Rattle.search.proofs.turn.expand.Goals as goal
 pub loop-t-init : goal.loop-t-init
 loop-t-init c =
     let a = c.args in
-    expand-start a.taken.now a.latest.0 a.bound.0 a.slots a.work.now a.height a.taken.now.plan.threads c.requires.0.threads
-    c.requires.1.1.1.1.1
+    expand-start a.taken.now a.latest.0 a.bound.0 a.taken.now.plan.threads a.stack.now c.requires.0.threads
 
 pub loop-t-preserved : goal.loop-t-preserved
 loop-t-preserved c =
-    let a = c.args in
     let at = c.loop-t.invariant in
+    let same = c.before-made.ensures.same in
     record {
       inside = omega arith;
-      made = c.before-made.ensures.makes a.work.now a.height c.unwrap_or-h.ensures
-          (expand-later at c.loop-t-test.true);
+      same = (same.0 ∙ at.same.0, same.1 ∙ at.same.1);
+      made = c.before-made.ensures.makes c.args.stack.now at.same (expand-later at c.loop-t-test.true);
     }

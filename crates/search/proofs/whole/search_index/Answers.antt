@@ -4,9 +4,9 @@ use Rattle.search.proofs.WholeLaws.{from_first}
 use Rattle.search.proofs.whole.search_index.Goals as goal
 
 pub search-requires : goal.search-requires
-search-requires c = (ready c.args.sheet.now c.args.index c.requires.0, (c.start-first.ensures.timed, c.requires.1))
+search-requires c = (rw c.from-plan.ensures (ready c.args.sheet.now c.args.index c.requires), c.start-first.ensures.timed)
 
 pub returns-clause-result_value : goal.returns-clause-result_value
 returns-clause-result_value c =
-    from_first c.args.sheet.now c.args.index c.requires.0 c.args.slots c.start-first.result c.start-first.ensures.starts
+    from_first c.args.sheet.now c.args.index c.requires c.args.stack.now.slots c.start-first.result c.start-first.ensures.starts
     c.search.ensures.result_value
