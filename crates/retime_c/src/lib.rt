@@ -44,8 +44,10 @@ pub extern "C" fn zumbeiry_take_back(
     new_greatest: u64,
     answer: &mut [u64],
 ) -> u32
-    ensures two_in { TwoIn (Back.take_back sheet.old (Rule.from_to thread statement old_least old_greatest new_least new_greatest)) answer.old answer.new result }
-    ensures sheet_after { sheet.new ≡ (Back.take_back sheet.old (Rule.from_to thread statement old_least old_greatest new_least new_greatest)).sheet }
+    ensures two_in { TwoIn (Back.take_back sheet.old (Rule.from_to thread statement old_least old_greatest new_least new_greatest))
+        answer.old answer.new result }
+    ensures sheet_after { sheet.new
+        ≡ (Back.take_back sheet.old (Rule.from_to thread statement old_least old_greatest new_least new_greatest)).sheet }
     ensures all_come_back { AllComeBack sheet.old }
 {
     retime::zumbeiry_take_back(
@@ -73,9 +75,11 @@ pub extern "C" fn zumbeiry_preview(
     greatest: u64,
     answer: &mut [u64],
 ) -> u32
-    ensures five_in { FiveIn (Rule.preview sheet.now copy.old work.old thread statement least greatest).answer answer.old answer.new result }
+    ensures five_in { FiveIn (Rule.preview sheet.now copy.old work.old thread statement least greatest).answer
+        answer.old answer.new result }
     ensures leaves { Leaves (Rule.preview sheet.now copy.old work.old thread statement least greatest) sheet.now copy.new work.new }
-    ensures holds_retimed { result ≡ 0 → HoldsRetimed sheet.now thread statement least greatest (Rule.preview sheet.now copy.old work.old thread statement least greatest).answer }
+    ensures holds_retimed { result ≡ 0 → HoldsRetimed sheet.now thread statement least greatest
+        (Rule.preview sheet.now copy.old work.old thread statement least greatest).answer }
 {
     retime::zumbeiry_preview(
         sheet, copy, work, thread, statement, least, greatest, answer,
